@@ -1,0 +1,5 @@
+pub mod Fronts
+pub mod Pieces
+pub mod FilesByName
+pub mod FailingCalls
+pub mod Examples

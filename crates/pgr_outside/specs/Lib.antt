@@ -1,0 +1,10 @@
+pub mod Limits
+pub mod Lists
+pub mod Faults
+pub mod Store
+pub mod Sink
+pub mod Reading
+pub mod Calls
+pub mod Files
+pub mod MemoryStore
+pub mod MemorySink
