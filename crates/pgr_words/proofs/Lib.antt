@@ -1,0 +1,9 @@
+mod SameOption
+mod Settings
+mod RisingLists
+mod Drafting
+mod WordByWord
+mod GoodWords
+mod WellFormedCommands
+mod Laws
+mod Examples

@@ -1,0 +1,9 @@
+pub mod Options
+pub mod Functions
+pub mod Rising
+pub mod Forms
+pub mod Words
+pub mod Commands
+pub mod Values
+pub mod Drafts
+pub mod WellFormed

@@ -1,0 +1,75 @@
+ghost use Rattle.std.specs.Prelude.{◌≡◌};
+ghost use Rattle.pgr_words.specs.Forms.{file_name, names, flag};
+ghost use Rattle.pgr_words.specs.Rising.{rising};
+ghost use Rattle.pgr_words.specs.Values.{Reads};
+
+use pgr_numerals::read_i64_list;
+use pgr_outside::{Listed, Text};
+use std::alloc::{AllocError, Global};
+
+/// The most bytes of a file name.
+const LONGEST_NAME: usize = 4096;
+
+/// The most names in a list.
+const MOST_NAMES: usize = 65536;
+
+/// Why a value wasn't read.
+#[derive(Clone, Copy, Debug, PartialEq, Eq, Drop)]
+pub(crate) enum ValueRefused {
+    /// It isn't in the form.
+    Form,
+    /// Memory was wanting.
+    Memory,
+}
+
+impl From<AllocError> for ValueRefused {
+    ghost use Rattle.std.specs.Prelude.{◌≡◌};
+    ghost use Rattle.pgr_words.specs.declared.value.ValueRefused.TheVariants.{Memory};
+
+    ghost from_gives = { λ _ refused. refused ≡ Memory };
+
+    fn from(_: AllocError) -> ValueRefused {
+        ValueRefused::Memory
+    }
+}
+
+/// A file name: 1 to 4,096 bytes, as they stand.
+pub(crate) fn read_file_name(alloc: Global, value: &str) -> Result<Text, ValueRefused>
+    ensures { Reads (λ name. name) (file_name value.now) result }
+{
+    if value.is_empty() || value.len() > LONGEST_NAME {
+        return Err(ValueRefused::Form);
+    }
+    let name = String::from_str(alloc, value)?;
+    Ok(Text::from_string(name))
+}
+
+/// A list of names: 1 to 65,536 numbers joined by commas. They come strictly rising, each once.
+pub(crate) fn read_names(alloc: Global, value: &str) -> Result<Listed<i64>, ValueRefused>
+    ensures { Reads (λ list. list) (names value.now) result }
+{
+    let Some(mut list) = read_i64_list(alloc, value.as_bytes(), MOST_NAMES)? else {
+        return Err(ValueRefused::Form);
+    };
+    make_rising(&mut list);
+    Ok(Listed::from_vec(list))
+}
+
+/// A flag: `true` or `false`.
+pub(crate) fn read_flag(value: &str) -> Result<bool, ValueRefused>
+    ensures { Reads (λ is_set. is_set) (flag value.now) result }
+{
+    match value {
+        "true" => Ok(true),
+        "false" => Ok(false),
+        _ => Err(ValueRefused::Form),
+    }
+}
+
+/// Puts the numbers in order and takes repeats out.
+fn make_rising(list: &mut Vec<i64>)
+    ensures { list.new.items ≡ rising list.old.items }
+{
+    list.sort_unstable();
+    list.dedup();
+}

@@ -1,0 +1,208 @@
+ghost use Rattle.std.specs.Prelude.{map, string_bytes, IfOk};
+ghost use Rattle.pgr_words.specs.Commands.{IsVerdict, command_of, command_behind};
+ghost use Rattle.pgr_words.specs.WellFormed.{IsWellFormed};
+
+use crate::command::Command;
+use crate::draft::Draft;
+use crate::fault::{WordFault, WordsRefused};
+use crate::function::Function;
+use std::alloc::Global;
+
+/// The command that the words ask for, or the first rule that they break.
+///
+/// The first word is the function's name. Each later word is two hyphens, an option's name, an equals sign and a value,
+/// which is all that follows the first equals sign. Nothing is abbreviated, trimmed or taken from elsewhere. An option
+/// that isn't given has its default; where combinations are given, starts and ends may be absent.
+/// `Fault` comes exactly where the words break a rule, and tells the first. `Memory` may come at any call.
+pub fn read_words(alloc: Global, words: &[String]) -> Result<Command, WordsRefused>
+    ensures verdict { IsVerdict (command_of (map string_bytes words.now)) result }
+    ensures well_formed { IfOk result IsWellFormed }
+{
+    let Some((first, options)) = words.split_first() else {
+        return Err(WordsRefused::Fault(WordFault::NoFunction));
+    };
+    match Function::named(first.as_str()) {
+        Some(function) => read_options(alloc, function, options),
+        None => Err(WordsRefused::Fault(WordFault::UnknownFunction)),
+    }
+}
+
+/// The command of a function with the options that the words behind its name give, or the first
+/// fault.
+fn read_options(
+    alloc: Global,
+    function: Function,
+    words: &[String],
+) -> Result<Command, WordsRefused>
+    ensures { IsVerdict (command_behind function (map string_bytes words.now)) result }
+{
+    let mut draft = Draft::new(alloc, function);
+    for (index, word) in words.iter().enumerate() {
+        // The function's name is the first word.
+        draft.take(alloc, function, index as u64 + 2, word.as_str())?;
+    }
+    draft.finish(function)
+}
+
+#[cfg(test)]
+mod tests {
+    use super::*;
+    use crate::option::OptionName;
+    use std::alloc::AllocError;
+    use std::test::Fail;
+
+    fn words(alloc: Global, texts: &[&str]) -> Result<Vec<String>, AllocError> {
+        let mut words = Vec::new(alloc);
+        for text in texts {
+            words.push(String::from_str(alloc, text)?)?;
+        }
+        Ok(words)
+    }
+
+    fn fault(alloc: Global, texts: &[&str]) -> Result<Option<WordFault>, AllocError> {
+        let words = words(alloc, texts)?;
+        Ok(match read_words(alloc, words.as_slice()) {
+            Err(WordsRefused::Fault(fault)) => Some(fault),
+            _ => None,
+        })
+    }
+
+    #[test]
+    fn names_come_rising_each_once(rt: HostRuntime) -> Result<(), Fail> {
+        let words = words(
+            rt.alloc(),
+            &[
+                "pgr_dijkstra",
+                "--edges=a=b.csv",
+                "--start=7,-2,7,007",
+                "--end=-9223372036854775808",
+                "--combinations=c.csv",
+                "--directed=false",
+            ],
+        )?;
+        let command = read_words(rt.alloc(), words.as_slice())?;
+        assert_eq!(rt; command.function, Function::Dijkstra);
+        assert_eq!(rt; command.edges.as_str(), "a=b.csv");
+        assert_eq!(rt; command.starts.as_slice(), [-2, 7].as_slice());
+        assert_eq!(rt; command.ends.as_slice(), [i64::MIN].as_slice());
+        assert!(rt; command.combinations.is_some());
+        assert!(rt; !command.directed);
+        Ok(())
+    }
+
+    #[test]
+    fn a_matrix_has_vertices_and_no_ends(rt: HostRuntime) -> Result<(), Fail> {
+        let words = words(
+            rt.alloc(),
+            &["pgr_dijkstraCostMatrix", "--vids=2,1", "--edges=a.csv"],
+        )?;
+        let command = read_words(rt.alloc(), words.as_slice())?;
+        assert_eq!(rt; command.function, Function::DijkstraCostMatrix);
+        assert_eq!(rt; command.vids.as_slice(), [1, 2].as_slice());
+        assert!(rt; command.ends.is_empty());
+        assert!(rt; command.directed);
+        Ok(())
+    }
+
+    #[test]
+    fn the_first_fault_is_told(rt: HostRuntime) -> Result<(), Fail> {
+        let alloc = rt.alloc();
+        assert_eq!(rt; fault(alloc, &[])?, Some(WordFault::NoFunction));
+        assert_eq!(rt;
+            fault(alloc, &["pgr_tsp"])?,
+            Some(WordFault::UnknownFunction)
+        );
+        assert_eq!(rt;
+            fault(alloc, &["pgr_dijkstraCost", "-v"])?,
+            Some(WordFault::BadWord(2))
+        );
+        assert_eq!(rt;
+            fault(alloc, &["pgr_dijkstra", "--K=2"])?,
+            Some(WordFault::UnknownOption(2))
+        );
+        assert_eq!(rt;
+            fault(
+                alloc,
+                &["pgr_dijkstra", "--edges=a.csv", "--start=1", "--start=2"]
+            )?,
+            Some(WordFault::RepeatedOption(OptionName::Start))
+        );
+        assert_eq!(rt;
+            fault(alloc, &["pgr_dijkstra", "--start=1,x", "--bogus=1"])?,
+            Some(WordFault::BadValue(OptionName::Start))
+        );
+        assert_eq!(rt;
+            fault(alloc, &["pgr_dijkstra", "--edges=a.csv", "--start=1"])?,
+            Some(WordFault::MissingOption(OptionName::End))
+        );
+        Ok(())
+    }
+
+    #[test]
+    fn values_are_judged_by_their_forms(rt: HostRuntime) -> Result<(), Fail> {
+        let alloc = rt.alloc();
+        let bad = Some(WordFault::BadValue(OptionName::Start));
+        for (start, want) in [
+            ("--start=", bad),
+            ("--start=1,,2", bad),
+            ("--start= 1", bad),
+            ("--start=9223372036854775808", bad),
+            ("--start=-9223372036854775809", bad),
+            ("--start=9223372036854775807,-9223372036854775808", None),
+        ] {
+            let got = fault(alloc, &["pgr_dijkstra", "--edges=a.csv", start, "--end=1"])?;
+            assert_eq!(rt; got, want, "{start}");
+        }
+        let zeros = words(
+            alloc,
+            &[
+                "pgr_dijkstraCost",
+                "--edges=a.csv",
+                "--start=-0,0",
+                "--end=1",
+            ],
+        )?;
+        let command = read_words(alloc, zeros.as_slice())?;
+        assert_eq!(rt; command.starts.as_slice(), [0].as_slice());
+        Ok(())
+    }
+
+    #[test]
+    fn a_file_name_has_at_most_4096_bytes(rt: HostRuntime) -> Result<(), Fail> {
+        let alloc = rt.alloc();
+        let mut edges = String::from_str(alloc, "--edges=")?;
+        for _ in 0..4096 {
+            edges.push_str("n")?;
+        }
+        let missing = WordFault::MissingOption(OptionName::Start);
+        assert_eq!(rt;
+            fault(alloc, &["pgr_dijkstra", edges.as_str()])?,
+            Some(missing)
+        );
+        edges.push_str("n")?;
+        let bad = WordFault::BadValue(OptionName::Edges);
+        assert_eq!(rt; fault(alloc, &["pgr_dijkstra", edges.as_str()])?, Some(bad));
+        Ok(())
+    }
+
+    #[test]
+    fn a_list_has_at_most_65536_names(rt: HostRuntime) -> Result<(), Fail> {
+        let alloc = rt.alloc();
+        let mut list = String::from_str(alloc, "--vids=1")?;
+        for _ in 1..65536 {
+            list.push_str(",1")?;
+        }
+        let missing = WordFault::MissingOption(OptionName::Edges);
+        assert_eq!(rt;
+            fault(alloc, &["pgr_dijkstraCostMatrix", list.as_str()])?,
+            Some(missing)
+        );
+        list.push_str(",1")?;
+        let bad = WordFault::BadValue(OptionName::Vids);
+        assert_eq!(rt;
+            fault(alloc, &["pgr_dijkstraCostMatrix", list.as_str()])?,
+            Some(bad)
+        );
+        Ok(())
+    }
+}
