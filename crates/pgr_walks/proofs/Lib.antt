@@ -1,0 +1,9 @@
+pub mod Shows
+pub mod Rising
+pub mod Runs
+pub mod Repeats
+pub mod CycleRemoval
+pub mod SmallCosts
+pub mod LeastExists
+pub mod TargetLabels
+pub mod Examples

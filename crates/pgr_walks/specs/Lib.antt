@@ -1,0 +1,11 @@
+pub mod Link
+pub mod Visit
+pub mod Walk
+pub mod RouteOrder
+pub mod Label
+pub mod Graph
+pub mod ListGraph
+pub mod LinkOrders
+pub mod RouteOrders
+pub mod ListGraphLaws
+pub mod Loopless

@@ -1,0 +1,16 @@
+-- Links and their orders. A link is one direction of an edge: (from, edge, cost, to).
+use Rattle.std.specs.declared.cmp.Ordering.{Ordering}
+use Rattle.std.specs.Ordering.{nat_cmp, int_cmp, ordering_then}
+use Rattle.pgr_walks.specs.declared.link.LinkOf.{LinkOf}
+
+-- the order of links that begin at one vertex: by edge, then cost, then where they lead
+abbrev pub step_cmp : {V : Type 0} → (V → V → Ordering) → LinkOf V → LinkOf V → Ordering
+step_cmp vertex_cmp a b = ordering_then (int_cmp a.edge b.edge) (ordering_then (nat_cmp a.cost b.cost) (vertex_cmp a.to b.to))
+
+-- the order of links that lead to one vertex: by edge, then cost, then where they begin
+abbrev pub entry_cmp : {V : Type 0} → (V → V → Ordering) → LinkOf V → LinkOf V → Ordering
+entry_cmp vertex_cmp a b = ordering_then (int_cmp a.edge b.edge) (ordering_then (nat_cmp a.cost b.cost) (vertex_cmp a.from b.from))
+
+-- the order of all links: by where they begin, then edge, cost and where they lead
+abbrev pub link_cmp : {V : Type 0} → (V → V → Ordering) → LinkOf V → LinkOf V → Ordering
+link_cmp vertex_cmp a b = ordering_then (vertex_cmp a.from b.from) (step_cmp vertex_cmp a b)
