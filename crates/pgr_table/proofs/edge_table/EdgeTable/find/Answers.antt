@@ -1,0 +1,14 @@
+use Rattle.std.proofs.Common.{w64}
+use Rattle.std.proofs.Math.Facts.{to_z-of_z}
+use Rattle.pgr_table.proofs.EdgeFacts.{find-found, find-absent}
+use Rattle.pgr_table.proofs.edge_table.EdgeTable.find.Goals as goal
+
+pub returns-clause-found : goal.returns-clause-found
+returns-clause-found c =
+    let same = to_z-of_z {w = w64} {z = c.args.id} c.ranges.id in
+    rw (← c.self.view_is) (find-found c.args.id c.self.inside.rows.entries c.get_index_of.result c.self.invariant.ids (rw same at c.get_index_of.ensures.found) (rw same at c.get_index_of.ensures.value))
+
+pub returns-clause-absent : goal.returns-clause-absent
+returns-clause-absent c =
+    let same = to_z-of_z {w = w64} {z = c.args.id} c.ranges.id in
+    rw (← c.self.view_is) (find-absent c.args.id c.self.inside.rows.entries c.get_index_of.result c.self.invariant.ids (rw same at c.get_index_of.ensures.found))

@@ -1,0 +1,19 @@
+use Rattle.std.proofs.Common.{◌≡◌, ◌≤◌, length}
+use Rattle.pgr_table.specs.Rows.{greatest, most_rows}
+use Rattle.pgr_table.specs.Judging.{judged, rules_of, sum_of}
+use Rattle.pgr_table.proofs.Verdicts.{verdict_behind}
+use Rattle.pgr_table.proofs.reading.read_table.Given as goal
+
+-- the verdict on the bytes is that on the rows so far and the records that are left; the rows so far are few enough, and have this sum
+abbrev pub invariant-loop-table : goal.invariant-loop-table
+invariant-loop-table g l = record {
+  verdict : judged g.T.Table.kind l.fn.bytes ≡ verdict_behind l.columns.items l.width (g.T.Table.rows l.table) l.records;
+  kind : rules_of l.columns.items ≡ g.T.Table.kind;
+  few : length (g.T.Table.rows l.table) ≤ most_rows;
+  sum : l.sum ≡ sum_of g.T.Table.kind (g.T.Table.rows l.table);
+  small : l.sum ≤ greatest;
+}
+
+-- the records that are left
+abbrev pub decreases-loop-table : goal.decreases-loop-table
+decreases-loop-table g l = length l.records

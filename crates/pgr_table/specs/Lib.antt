@@ -1,0 +1,5 @@
+pub mod Rows
+pub mod Kinds
+pub mod Judging
+pub mod Kept
+pub mod RecordsLeft

@@ -1,0 +1,69 @@
+use crate::column::Column;
+use pgr_outside::NoMemory;
+use thiserror::Error;
+
+/// Why a table isn't accepted: the first fault, in this order.
+///
+/// `NoHeader` first; then, column by column in the order of the kind, `MissingColumn` and `RepeatedColumn`; then, record
+/// by record, `TooManyRows`, `UnevenRecord`, `BadField` of the first such column, `DuplicateId` and `CostSum`. A fault at
+/// a record is decided by the records up to it. The header is record 1.
+#[derive(Clone, Copy, Debug, PartialEq, Eq, Drop, Error)]
+pub enum TableFault {
+    /// There is no record.
+    #[error("no header")]
+    NoHeader,
+    /// The record with this number hasn't as many fields as the header.
+    #[error("record {0}: another number of fields than the header")]
+    UnevenRecord(u64),
+    /// The header hasn't this column.
+    #[error("no column {0}")]
+    MissingColumn(Column),
+    /// The header has this column twice.
+    #[error("the column {0} stands twice")]
+    RepeatedColumn(Column),
+    /// In the record with this number the field of this column isn't in its grammar.
+    #[error("record {0}: bad {1}")]
+    BadField(u64, Column),
+    /// The id of the record with this number stood before.
+    #[error("record {0}: an id that stood before")]
+    DuplicateId(u64),
+    /// The record with this number is number 4,194,306.
+    #[error("record {0}: too many rows")]
+    TooManyRows(u64),
+    /// With the record with this number the sum of the costs passes 2^63 - 1.
+    #[error("record {0}: the sum of the costs is too great")]
+    CostSum(u64),
+}
+
+/// Why there is no table.
+#[derive(Clone, Copy, Debug, PartialEq, Eq, Drop, Error)]
+pub enum TableRefused {
+    /// The table isn't accepted.
+    #[error(transparent)]
+    Fault(TableFault),
+    /// Memory was wanting.
+    #[error("want of memory")]
+    Memory,
+}
+
+impl From<NoMemory> for TableRefused {
+    ghost use Rattle.std.specs.Prelude.{◌≡◌};
+    ghost use Rattle.pgr_table.specs.declared.fault.TableRefused.TheVariants.{Memory};
+
+    ghost from_gives = { λ _ refused. refused ≡ Memory };
+
+    fn from(_: NoMemory) -> TableRefused {
+        TableRefused::Memory
+    }
+}
+
+impl From<TableFault> for TableRefused {
+    ghost use Rattle.std.specs.Prelude.{◌≡◌};
+    ghost use Rattle.pgr_table.specs.declared.fault.TableRefused.TheVariants.{Fault};
+
+    ghost from_gives = { λ fault refused. refused ≡ Fault fault };
+
+    fn from(fault: TableFault) -> TableRefused {
+        TableRefused::Fault(fault)
+    }
+}
