@@ -1,0 +1,4 @@
+pub mod RowLinks
+pub mod TableLinks
+pub mod TableFits
+pub mod Examples

@@ -1,0 +1,10 @@
+pub mod Links
+pub mod Senses
+pub use Rattle.pgr_walks.specs.Link
+pub use Rattle.pgr_walks.specs.Walk
+pub use Rattle.pgr_walks.specs.RouteOrder
+pub use Rattle.pgr_walks.specs.Label
+pub use Rattle.pgr_walks.specs.Graph
+pub use Rattle.pgr_walks.specs.Visit
+pub use Rattle.pgr_walks.specs.Loopless
+pub use Rattle.pgr_walks.specs.RouteOrders

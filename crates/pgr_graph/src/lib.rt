@@ -1,0 +1,20 @@
+//! The links of a table.
+//!
+//! [`links_of`] lists the links of an edge table between vertex ids, in the directed graph or the undirected one;
+//! walks over them, graphs and visitors are those of `pgr_walks`, whose types, laws and definitions this crate passes on.
+//! Proved: the list has exactly the links of the table, each once, in order (`links_of`); every link and every
+//! loopless route of a table costs at most 2^63 - 1 (`links_fit`). Not proved: time.
+#![tactic(auto)]
+
+mod laws;
+mod links;
+
+pub use laws::links_fit;
+pub use links::{Direction, links_of};
+pub use pgr_walks::{
+    Graph, Label, Link, LinkOf, LinkVisitor, ListGraph, NamedLink, Next,
+    closed_sets_have_a_least_walk, every_walk_can_be_loopless, least_labels_are_small,
+    loopless_walks_are_short, one_walk_between_ends_is_least, one_walk_of_a_set_is_least,
+    one_walk_precedes_another, one_walk_to_targets_is_least, show, small_costs_fit,
+    targets_have_labels_of_zero,
+};
