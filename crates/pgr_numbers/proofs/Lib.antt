@@ -1,0 +1,6 @@
+pub mod Rising
+pub mod Ends
+pub mod Turning
+pub mod Order
+pub mod Walks
+pub mod Graphs
