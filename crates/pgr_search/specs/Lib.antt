@@ -1,0 +1,4 @@
+pub mod Relaxing
+pub mod Nearest
+pub mod Start
+pub mod ThreeVertices
