@@ -1,0 +1,5 @@
+pub mod StepLemmas
+pub mod SeekingLemmas
+pub mod TightWalks
+pub mod LeastWalk
+pub mod Examples

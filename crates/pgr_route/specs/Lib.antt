@@ -1,0 +1,5 @@
+pub mod Steps
+pub mod Chain
+pub mod Tight
+pub mod Seeking
+pub mod Least

@@ -1,0 +1,44 @@
+ghost use Rattle.std.specs.Prelude.{◌≡◌, ℕ, ◌<◌, ◌↔◌, List, IfOk, IfSome, IfNone, IsSome};
+ghost use Rattle.pgr_walks.specs.Graph.{Fits, IsLinkOf};
+ghost use Rattle.pgr_walks.specs.Label.{HoldsLabels};
+ghost use Rattle.pgr_route.specs.Least.{IsLeastFrom, LeadsNowhere};
+ghost use Rattle.pgr_route.specs.Tight.{label_at};
+
+use crate::growth::push;
+use crate::route::Route;
+use crate::tight::least_tight_link;
+use pgr_outside::NoMemory;
+use pgr_search::Room;
+use pgr_walks::Graph;
+use std::alloc::Global;
+
+/// The walk from `from` to a target that precedes every other such walk in the route order, or none where no
+/// walk leads from `from` to a target.
+///
+/// The graph fits, `from` is a vertex number below its size, and the room holds the labels of the graph to
+/// some targets. From a target the route is empty.
+/// `NoMemory` may come at any call. Work, not proved: the links out of each vertex on the route are shown once.
+pub fn least_route<G: Graph>(
+    alloc: Global,
+    g: &G,
+    from: u32,
+    room: &Room,
+) -> Result<Option<Route>, NoMemory>
+    requires fits { Fits (IsLinkOf (G.count g.now) (G.ins g.now)) }
+    requires from { from < G.count g.now }
+    requires room { (targets : List ℕ) × HoldsLabels (G.count g.now) (IsLinkOf (G.count g.now) (G.ins g.now)) targets room.now }
+    ensures least { IfOk result (λ found. IfSome found (IsLeastFrom (G.count g.now) (IsLinkOf (G.count g.now) (G.ins g.now)) room.now from)) }
+    ensures none { IfOk result (λ found. IfNone found (LeadsNowhere (G.count g.now) (IsLinkOf (G.count g.now) (G.ins g.now)) room.now from)) }
+    ensures label { IfOk result (λ found. IsSome found ↔ IsSome (label_at room.now from)) }
+{
+    if room.label(from).is_none() {
+        return Ok(None);
+    }
+    let mut links = Vec::new(alloc);
+    let mut at = from;
+    while let Some(link) = least_tight_link(g, at, room) {
+        push(&mut links, link)?;
+        at = link.to;
+    }
+    Ok(Some(Route::of(links)))
+}
