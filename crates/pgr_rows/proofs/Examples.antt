@@ -1,0 +1,16 @@
+-- The text of small tables, computed.
+use Rattle.std.proofs.Common.{◌≡◌, [], ◌∷◌, refl}
+use Rattle.std.specs.Prelude.{codes}
+use Rattle.pgr_rows.specs.declared.rows.Rows.TheVariants.{Paths, Costs}
+use Rattle.pgr_rows.specs.Text.{text_of, line_of}
+
+-- a table without rows is its header line
+no_rows : text_of (Paths []) ≡ codes "seq,path_seq,start_vid,end_vid,node,edge,cost,agg_cost\n"
+no_rows = refl
+
+no_costs : text_of (Costs []) ≡ codes "start_vid,end_vid,agg_cost\n"
+no_costs = refl
+
+-- fields are joined by commas, and the line ends with a line feed
+three_fields : line_of (codes "1" ∷ codes "-1" ∷ codes "30" ∷ []) ≡ codes "1,-1,30\n"
+three_fields = refl

@@ -1,0 +1,42 @@
+use pgr_outside::Listed;
+
+/// A row of a table of paths: one link of a path, or its end.
+#[derive(Clone, Copy, Debug, PartialEq, Eq)]
+pub struct PathRow {
+    /// The number of the row in the table, from 1.
+    pub seq: u64,
+    /// The number of the row in its path, from 1.
+    pub path_seq: u64,
+    /// The vertex where the path begins.
+    pub start_vid: i64,
+    /// The vertex where the path ends.
+    pub end_vid: i64,
+    /// The vertex where the link begins, or the end.
+    pub node: i64,
+    /// The edge of the link, or -1 at the end.
+    pub edge: i64,
+    /// The cost of the link, or 0 at the end.
+    pub cost: u64,
+    /// The cost of the path up to the vertex.
+    pub agg_cost: u64,
+}
+
+/// A row of a table of costs: the cost from one vertex to another.
+#[derive(Clone, Copy, Debug, PartialEq, Eq)]
+pub struct CostRow {
+    /// The vertex where the path begins.
+    pub start_vid: i64,
+    /// The vertex where the path ends.
+    pub end_vid: i64,
+    /// The cost of the path.
+    pub agg_cost: u64,
+}
+
+/// The rows of a result table, with one variant for each kind of table.
+#[derive(Debug, Drop)]
+pub enum Rows {
+    /// Paths, of the columns `seq,path_seq,start_vid,end_vid,node,edge,cost,agg_cost`.
+    Paths(Listed<PathRow>),
+    /// Costs, of the columns `start_vid,end_vid,agg_cost`.
+    Costs(Listed<CostRow>),
+}
