@@ -1,0 +1,35 @@
+ghost use Rattle.std.specs.Prelude.{◌≡◌};
+ghost use Rattle.pgr_run.specs.Status.{number_of};
+
+/// How a run ended. Its number is the exit status of the program.
+#[derive(Clone, Copy, Debug, PartialEq, Eq)]
+pub enum Status {
+    /// 0: the text of the table was written whole.
+    Done,
+    /// 1: a read of the named file failed, or a write to the output.
+    Outside,
+    /// 2: the words aren't a command.
+    Words,
+    /// 3: the table isn't accepted, for another cause than its limits.
+    Table,
+    /// 4: the file is longer than the limit, has too many rows, or its costs have too great a sum.
+    Limit,
+    /// 5: memory was wanting.
+    Memory,
+}
+
+impl Status {
+    /// The exit status: 0 to 5, in the order of the variants.
+    pub fn number(self) -> u8
+        ensures { result ≡ number_of self }
+    {
+        match self {
+            Status::Done => 0,
+            Status::Outside => 1,
+            Status::Words => 2,
+            Status::Table => 3,
+            Status::Limit => 4,
+            Status::Memory => 5,
+        }
+    }
+}
