@@ -1,0 +1,24 @@
+use crate::file_store::FileStore;
+use crate::stream_sink::StreamSink;
+use pgr_outside::{ReadRefused, Store, read_file, write_all};
+use std::test::Fail;
+use std::{env, fs};
+
+#[test]
+fn bytes_written_to_a_stream_are_read_from_its_file(rt: HostRuntime) -> Result<(), Fail> {
+    let folder = env::temp_dir(&rt)?;
+    let name = format!(in rt.alloc(); "{}/pgr_cli_streams.csv", folder.as_path().display())?;
+    let mut sink = StreamSink::new(fs::create(&rt, name.as_str())?);
+    write_all(&mut sink, b"id,source\n1,2\n")?;
+    let mut store = FileStore::new(&rt, rt.alloc());
+    let bytes = read_file(rt.alloc(), &mut store, name.as_str(), 100)?;
+    assert_eq!(rt; bytes.as_slice(), b"id,source\n1,2\n".as_slice());
+    let mut middle = [0u8; 6];
+    let count = store.read_at(name.as_str(), 3, &mut middle)?;
+    assert_eq!(rt; count, 6);
+    assert_eq!(rt; middle.as_slice(), b"source".as_slice());
+    let missing = read_file(rt.alloc(), &mut store, "/no/such/folder/edges.csv", 100);
+    assert_eq!(rt; missing.err(), Some(ReadRefused::Failed));
+    fs::remove_file(&rt, name.as_str())?;
+    Ok(())
+}
