@@ -161,7 +161,7 @@ no_fault_in : (fault : Option WordFault) (rest : Result Command WordFault) (comm
 no_fault_in None rest command e = (refl, e)
 no_fault_in (Some fault) rest command e = cc
 
-pub well_formed_behind : (function : Function) (words : List (List ℕ)) (answer : Result Command WordsRefused) → IsVerdict (command_behind function words) answer → IfOk answer IsWellFormed
+pub well_formed_behind : (function : Function) (words : List (List ℕ)) (answer : Result Command WordsRefused) → IsVerdict answer (command_behind function words) → IfOk answer IsWellFormed
 well_formed_behind function words (Ok command) verdict =
     let givens = given function words in
     let made = command_with function (value_in givens) in

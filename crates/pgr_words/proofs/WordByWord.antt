@@ -52,7 +52,7 @@ at_end function words n draft taken whole =
     rw (none, holds.stood, holds.fields) refl
 
 -- a refusal is the verdict, where its fault is
-pub refused_is : (verdict : Result Command WordFault) (P : WordFault → Type 0) (why : WordsRefused) → ((fault : WordFault) → P fault → verdict ≡ Err fault) → IsFaultOf P why → IsVerdict verdict (Err why)
+pub refused_is : (verdict : Result Command WordFault) (P : WordFault → Type 0) (why : WordsRefused) → ((fault : WordFault) → P fault → verdict ≡ Err fault) → IsFaultOf P why → IsVerdict (Err why) verdict
 refused_is verdict P (refused.Fault fault) gives is = gives fault is
 refused_is verdict P refused.Memory gives is = tt
 

@@ -70,7 +70,7 @@ command_of [] = Err NoFunction
 command_of (word ∷ words) = command_named (function_named word) words
 
 -- the answer is the command of the words or their first fault, unless memory was wanting
-abbrev pub IsVerdict : Result Command WordFault → Result Command WordsRefused → Type 0
-IsVerdict verdict (Ok command) = verdict ≡ Ok command
-IsVerdict verdict (Err (refused.Fault fault)) = verdict ≡ Err fault
-IsVerdict verdict (Err refused.Memory) = Unit {0}
+abbrev pub IsVerdict : Result Command WordsRefused → Result Command WordFault → Type 0
+IsVerdict (Ok command) verdict = verdict ≡ Ok command
+IsVerdict (Err (refused.Fault fault)) verdict = verdict ≡ Err fault
+IsVerdict (Err refused.Memory) verdict = Unit {0}

@@ -58,7 +58,7 @@ impl Draft {
     /// The command, or the first needed option that is missing.
     pub(crate) fn finish(self, function: Function) -> Result<Command, WordsRefused>
         ensures { let missing = first_missing function self.stood.items in
-            IsVerdict (unless (missing_fault missing) (Result.Ok self.command)) result }
+            IsVerdict result (unless (missing_fault missing) (Result.Ok self.command)) }
     {
         let Draft { command, stood } = self;
         match first_missing(function, stood.as_slice()) {

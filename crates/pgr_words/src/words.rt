@@ -15,7 +15,7 @@ use std::alloc::Global;
 /// that isn't given has its default; where combinations are given, starts and ends may be absent.
 /// `Fault` comes exactly where the words break a rule, and tells the first. `Memory` may come at any call.
 pub fn read_words(alloc: Global, words: &[String]) -> Result<Command, WordsRefused>
-    ensures verdict { IsVerdict (command_of (map string_bytes words.now)) result }
+    ensures verdict { IsVerdict result (command_of (map string_bytes words.now)) }
     ensures well_formed { IfOk result IsWellFormed }
 {
     let Some((first, options)) = words.split_first() else {
@@ -34,7 +34,7 @@ fn read_options(
     function: Function,
     words: &[String],
 ) -> Result<Command, WordsRefused>
-    ensures { IsVerdict (command_behind function (map string_bytes words.now)) result }
+    ensures { IsVerdict result (command_behind function (map string_bytes words.now)) }
 {
     let mut draft = Draft::new(alloc, function);
     for (index, word) in words.iter().enumerate() {
