@@ -1,0 +1,12 @@
+pub mod NetworkLemmas
+pub mod KeptLemmas
+pub mod PairLemmas
+pub mod FoundLemmas
+pub mod PathTables
+pub mod AnswersAlong
+pub mod TablesFound
+pub mod RisingLists
+pub mod OneTable
+pub mod LeastCosts
+pub mod FirstRefusals
+pub mod ReadTables

@@ -1,0 +1,35 @@
+use crate::role::Role;
+use pgr_outside::NoMemory;
+use pgr_table::TableFault;
+use thiserror::Error;
+
+/// Why a command isn't answered: the first cause, in this order.
+///
+/// The files that the command names are read in order, the edges and then the combinations. Each is read whole, then it
+/// is judged, and only then the next one is read.
+#[derive(Clone, Copy, Debug, PartialEq, Eq, Drop, Error)]
+pub enum Refused {
+    /// A read of the file with this role failed: only where the count of faults of its name rose in this call.
+    #[error("{0}: read failed")]
+    ReadFailed(Role),
+    /// The file with this role has more than 268,435,456 bytes.
+    #[error("{0}: file too long")]
+    TooLong(Role),
+    /// The file with this role isn't an accepted table: its first fault.
+    #[error("{0}: {1}")]
+    Table(Role, TableFault),
+    /// Memory was wanting.
+    #[error("want of memory")]
+    Memory,
+}
+
+impl From<NoMemory> for Refused {
+    ghost use Rattle.std.specs.Prelude.{◌≡◌};
+    ghost use Rattle.pgr_answer.specs.declared.refused.Refused.TheVariants.{Memory};
+
+    ghost from_gives = { λ _ refused. refused ≡ Memory };
+
+    fn from(_: NoMemory) -> Refused {
+        Refused::Memory
+    }
+}
