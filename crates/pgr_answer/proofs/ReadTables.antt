@@ -35,6 +35,10 @@ rows_told : {Rows : Type 0} (verdict : List ℕ → Result Rows TableFault) (P :
 rows_told verdict P None rows other read told = absurd told
 rows_told verdict P (Some bytes) rows other read told = one_verdict (verdict bytes) rows other read.1 told
 
+-- two tables with the same rows are one
+both : (e e' : List EdgeRow) (p p' : List PairRow) → e ≡ e' → p ≡ p' → ◌≡◌ {A = Tables} (record { edges = e; combinations = p }) (record { edges = e'; combinations = p' })
+both e e' p p' same also = cc
+
 module _ (content : List ℕ → Option (List ℕ)) where
   accepted_combinations : (combinations : Option (List ℕ)) (rows : Option (List PairRow)) → AreCombinations content combinations rows → (edges : List ℕ) → IsAccepted content (edges_file edges) → All (IsAccepted content) (files edges combinations)
   accepted_combinations None rows are edges accepted = All-cons (IsAccepted content) (edges_file edges) [] accepted (All-nil (IsAccepted content))
@@ -66,6 +70,23 @@ module _ (content : List ℕ → Option (List ℕ)) where
       let edges_same : edge_rows ≡ tables.edges = rows_told judged_edges (λ bytes. refusal_of Edges bytes ≡ None) (content command.edges) edge_rows tables.edges read told.edges in
       let pairs_same : rows_or_none pair_rows ≡ tables.combinations = combinations_told command.combinations pair_rows tables.combinations are told.combinations in
       let same : record { edges = edge_rows; combinations = rows_or_none pair_rows } ≡ tables = both edge_rows tables.edges (rows_or_none pair_rows) tables.combinations edges_same pairs_same in
-      subst (λ (t : Tables). IsAllowed command t rows) same allowed where
-        both : (e e' : List EdgeRow) (p p' : List PairRow) → e ≡ e' → p ≡ p' → ◌≡◌ {A = Tables} (record { edges = e; combinations = p }) (record { edges = e'; combinations = p' })
-        both e e' p p' same also = cc
+      subst (λ (t : Tables). IsAllowed command t rows) same allowed
+
+-- a told content with a verdict has one list of rows
+one_told : {Rows : Type 0} (verdict : List ℕ → Result Rows TableFault) (told : Option (List ℕ)) (rows other : Rows) → IsSomeAnd told (λ bytes. verdict bytes ≡ Ok rows) → IsSomeAnd told (λ bytes. verdict bytes ≡ Ok other) → rows ≡ other
+one_told verdict None rows other is also = absurd is
+one_told verdict (Some bytes) rows other is also = one_verdict (verdict bytes) rows other is also
+
+one_of_combinations : (content : List ℕ → Option (List ℕ)) (combinations : Option (List ℕ)) (rows other : List PairRow)
+    → MatchOption combinations (rows ≡ []) (λ name. IsSomeAnd (content name) (λ bytes. judged_pairs bytes ≡ Ok rows))
+    → MatchOption combinations (other ≡ []) (λ name. IsSomeAnd (content name) (λ bytes. judged_pairs bytes ≡ Ok other))
+    → rows ≡ other
+one_of_combinations content None rows other is also = is ∙ sym also
+one_of_combinations content (Some name) rows other is also = one_told judged_pairs (content name) rows other is also
+
+-- told contents are one list of tables at most
+pub one_are_tables : (content : List ℕ → Option (List ℕ)) (command : Command) (tables other : Tables) → AreTables content command tables → AreTables content command other → tables ≡ other
+one_are_tables content command tables other are also =
+    let edges_same : tables.edges ≡ other.edges = one_told judged_edges (content command.edges) tables.edges other.edges are.edges also.edges in
+    let pairs_same : tables.combinations ≡ other.combinations = one_of_combinations content command.combinations tables.combinations other.combinations are.combinations also.combinations in
+    both tables.edges other.edges tables.combinations other.combinations edges_same pairs_same

@@ -26,6 +26,8 @@ mod path_rows;
 mod reading;
 mod refused;
 mod role;
+#[cfg(test)]
+mod tests;
 
 pub use answered::{Answered, Note};
 pub use answering::answer;
