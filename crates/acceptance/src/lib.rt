@@ -2,6 +2,16 @@
 #![tactic(auto)]
 
 #[cfg(test)]
+mod case;
+#[cfg(test)]
+mod costs;
+#[cfg(test)]
+mod failures;
+#[cfg(test)]
+mod paths;
+#[cfg(test)]
+mod refusals;
+#[cfg(test)]
 mod tables;
 #[cfg(test)]
-mod tests;
+mod words;

@@ -1,52 +1,44 @@
--- Small command lines and tables, computed.
-use Rattle.std.proofs.Common.{◌≡◌, List, ℕ, [], ◌∷◌, refl, pos, Option, Some, None}
+-- The messages of causes that have no number, computed.
+use Rattle.std.proofs.Common.{◌≡◌, refl}
 use Rattle.std.specs.Prelude.{codes}
-use Rattle.pgr_run.specs.Words.{Question, question_of}
-use Rattle.pgr_run.specs.declared.status.Status.{Status}
-use Rattle.pgr_run.specs.declared.status.Status.TheVariants.{Table, Limit}
-use Rattle.pgr_run.specs.Promise.{status_of_verdict}
-use Rattle.pgr_table.specs.Kinds.{edge_kind}
-use Rattle.pgr_table.specs.Rows.{edge_of}
-use Rattle.pgr_table.specs.Judging.{judged_records, with_rows}
+use Rattle.pgr_words.specs.declared.option.OptionName.TheVariants.{Start}
+use Rattle.pgr_words.specs.declared.fault.WordFault.TheVariants.{NoFunction, RepeatedOption, BadValue, MissingOption}
+use Rattle.pgr_table.specs.declared.column.Column.TheVariants.{Target}
+use Rattle.pgr_table.specs.declared.fault.TableFault.TheVariants.{NoHeader, MissingColumn}
+use Rattle.pgr_answer.specs.declared.role.Role.TheVariants.{Edges, Combinations}
+use Rattle.pgr_answer.specs.declared.refused.Refused.TheVariants as refused
+use Rattle.pgr_run.specs.declared.cause.Cause.TheVariants as cause
+use Rattle.pgr_run.specs.Messages.{message_of}
 
-abbrev words : List ℕ → List ℕ → List (List ℕ)
-words start end = codes "pgr_dijkstra" ∷ codes "--edges=a.csv" ∷ start ∷ end ∷ []
+-- words that break a rule
+no_function : message_of (cause.Words NoFunction) ≡ codes "pgr: no function\n"
+no_function = refl
 
--- the four words ask a question; zeros may stand in front of a vertex
-four_words : question_of (words (codes "--start=007") (codes "--end=4")) ≡ Some (record { edges = codes "a.csv"; start = pos 7; end = pos 4 })
-four_words = refl
+a_repeated_option : message_of (cause.Words (RepeatedOption Start)) ≡ codes "pgr: option start repeated\n"
+a_repeated_option = refl
 
--- the greatest vertex is 2^63 - 1
-the_greatest_vertex : question_of (words (codes "--start=1") (codes "--end=9223372036854775807")) ≡ Some (record { edges = codes "a.csv"; start = pos 1; end = pos 9223372036854775807 })
-the_greatest_vertex = refl
+a_bad_value : message_of (cause.Words (BadValue Start)) ≡ codes "pgr: bad value for start\n"
+a_bad_value = refl
 
-one_above_it : question_of (words (codes "--start=1") (codes "--end=9223372036854775808")) ≡ None
-one_above_it = refl
+a_missing_option : message_of (cause.Words (MissingOption Start)) ≡ codes "pgr: option start missing\n"
+a_missing_option = refl
 
--- another order, a hyphen, an empty name, and another number of words ask none
-another_order : question_of (words (codes "--end=4") (codes "--start=1")) ≡ None
-another_order = refl
+-- files that are refused, each called by its role
+no_header : message_of (cause.Refused (refused.Table Edges NoHeader)) ≡ codes "pgr: edges: no header\n"
+no_header = refl
 
-a_hyphen : question_of (words (codes "--start=-1") (codes "--end=4")) ≡ None
-a_hyphen = refl
+a_missing_column : message_of (cause.Refused (refused.Table Combinations (MissingColumn Target))) ≡ codes "pgr: combinations: column target missing\n"
+a_missing_column = refl
 
-no_name : question_of (codes "pgr_dijkstra" ∷ codes "--edges=" ∷ codes "--start=1" ∷ codes "--end=4" ∷ []) ≡ None
-no_name = refl
+a_failed_read : message_of (cause.Refused (refused.ReadFailed Combinations)) ≡ codes "pgr: combinations: read failed\n"
+a_failed_read = refl
 
-no_words : question_of [] ≡ None
-no_words = refl
+a_long_file : message_of (cause.Refused (refused.TooLong Edges)) ≡ codes "pgr: edges: file too long\n"
+a_long_file = refl
 
--- the status of a table by its records, none where it is accepted
-abbrev status_of_records : List (List (List ℕ)) → Option Status
-status_of_records records = status_of_verdict (with_rows edge_of (judged_records edge_kind records))
+-- memory, and the output
+no_memory : message_of (cause.Refused refused.Memory) ≡ codes "pgr: want of memory\n"
+no_memory = refl
 
--- a table without a record is refused with status 3, and one with too great a sum with status 4
-no_record : status_of_records [] ≡ Some Table
-no_record = refl
-
-too_great_a_sum : status_of_records ((codes "id" ∷ codes "source" ∷ codes "target" ∷ codes "cost" ∷ codes "reverse_cost" ∷ []) ∷ (codes "1" ∷ codes "1" ∷ codes "2" ∷ codes "9223372036854775807" ∷ codes "1" ∷ []) ∷ []) ≡ Some Limit
-too_great_a_sum = refl
-
--- a whole number with zeros behind a full stop is a cost
-zeros_behind : status_of_records ((codes "id" ∷ codes "source" ∷ codes "target" ∷ codes "cost" ∷ []) ∷ (codes "1" ∷ codes "1" ∷ codes "2" ∷ codes "3.0" ∷ []) ∷ []) ≡ None
-zeros_behind = refl
+a_failed_write : message_of cause.WriteFailed ≡ codes "pgr: write failed\n"
+a_failed_write = refl

@@ -1,5 +1,3 @@
-pub mod WordLemmas
-pub mod WalkLemmas
-pub mod AnswerLemmas
 pub mod PromiseLemmas
+pub mod Pieces
 pub mod Examples

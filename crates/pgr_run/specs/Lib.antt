@@ -1,8 +1,4 @@
-pub mod Words
-pub mod Asked
 pub mod Status
-pub mod Least
-pub mod Allowed
-pub mod OneTable
+pub mod Causes
+pub mod Messages
 pub mod Promise
-pub mod Refusing

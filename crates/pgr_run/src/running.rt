@@ -1,26 +1,33 @@
-ghost use Rattle.std.specs.Prelude.{◌≡◌, ◌≢◌, ◌⊎◌, ◌≤◌, IfSome, IsNone, Some, None, is_some};
+ghost use Rattle.std.specs.Prelude.{◌≡◌, ◌≢◌, ◌⊎◌, ◌≤◌, All, IfOk, IfErr, IsErr, IsErrOf, is_some};
 ghost use Rattle.pgr_outside.specs.Faults.{HasRisen, NoneFell};
-ghost use Rattle.pgr_run.specs.Words.{question_of, texts, Asks};
-ghost use Rattle.pgr_run.specs.Refusing as refusing;
-ghost use Rattle.pgr_run.specs.Promise.{refusal_of, WritesAllowed, WritesFront};
+ghost use Rattle.pgr_words.specs.Commands.{command_of};
+ghost use Rattle.pgr_answer.specs.Files.{files_of, IsKnownAccepted};
+ghost use Rattle.pgr_answer.specs.Refusals.{IsFirstRefusal};
+ghost use Rattle.pgr_answer.specs.declared.refused.Refused.{Refused as ARefused};
+ghost use Rattle.pgr_answer.specs.declared.refused.Refused.TheVariants as refused;
+ghost use Rattle.pgr_answer.specs.declared.role.Role.{Role as ARole};
+ghost use Rattle.pgr_run.specs.declared.cause.Cause.{Cause as ACause};
+ghost use Rattle.pgr_run.specs.Causes.{status_of, status_of_refusal};
+ghost use Rattle.pgr_run.specs.Messages.{message_of};
+ghost use Rattle.pgr_run.specs.Promise.{texts, Asks, WritesAllowed, WritesMessage, Holds, AReadFailed};
 
-use crate::answer::{Refused, answer};
+use crate::cause::Cause;
+use crate::message::message;
 use crate::status::Status;
-use crate::words::read_question;
-use pgr_outside::{Sink, Store};
+use pgr_answer::answer;
+use pgr_outside::{Sink, Store, write_all};
 use pgr_rows::write_table;
-use pgr_table::TableFault;
+use pgr_words::read_words;
 use std::alloc::Global;
 
-/// Answers the question of a command line over the files of a store, on one sink; nothing is written to the other.
+/// Answers a command line over the files of a store: the result table on one sink, a message on another.
 ///
-/// The words are exactly `pgr_dijkstra`, `--edges=FILE`, `--start=VERTEX` and `--end=VERTEX`. The answer is the table
-/// of the least route from the start to the end over the directed links of the file, or its header alone where one
-/// of them is no vertex, where they are equal, or where no walk leads from the one to the other.
-///
-/// The causes are judged in this order: the words; a read of the file that failed; its length; its form; a write
-/// that failed. `Memory` may stand in place of any of them up to the writing. The output is written only after all
-/// rows stand, the whole header line first, so every status but `Done` and a failed write leaves it as it was.
+/// The words are a function's name and its options; see [`read_words`](pgr_words::read_words). The causes are judged in
+/// this order: the words; each file that they name, the edges and then the combinations, which is read whole and judged
+/// before the next is read; a write that failed. `Memory` may stand in place of any of them up to the writing.
+/// The output is written only after all rows stand, the whole header line first, so every status but `Done` and a failed
+/// write leaves it as it was. The other sink receives one line for the cause of every status but `Done`, last of all;
+/// where it fails, it holds a front of that line, and the status stays what it is.
 pub fn run<S: Store, O: Sink, E: Sink>(
     alloc: Global,
     words: &[String],
@@ -28,72 +35,84 @@ pub fn run<S: Store, O: Sink, E: Sink>(
     out: &mut O,
     err: &mut E,
 ) -> Status
-    // The text of a table that answers the question was written, exactly.
-    ensures done { result ≡ Status.Done → Asks (texts words.now) (λ question. IfSome (S.content store.old question.edges)
-        (λ bytes. WritesAllowed question bytes (O.written out.old) (O.written out.new))) }
+    // Status 0: exactly the text of a table that the command allows was written, and no message.
+    ensures done { result ≡ Status.Done → Asks (texts words.now)
+        (λ command. WritesAllowed command (S.content store.old) (O.written out.old) (O.written out.new)) }
+    ensures silent { result ≡ Status.Done → err.new ≡ err.old }
 
-    // A read or a write failed: the count of the file that the words name rose, or that of the output.
-    ensures outside { result ≡ Status.Outside → Asks (texts words.now) (λ question.
-        (HasRisen (S.faults store.old question.edges) (S.faults store.new question.edges) × (O.written out.new ≡ O.written out.old))
-        ⊎ (HasRisen (O.faults out.old) (O.faults out.new) × IfSome (S.content store.old question.edges)
-        (λ bytes. WritesFront question bytes (O.written out.old) (O.written out.new)))) }
+    // Every other status names a cause that holds, and its message was written, or a front of it where the count rose.
+    ensures cause { result ≢ Status.Done → (cause : ACause) × (result ≡ status_of cause)
+        × Holds (texts words.now) (record {
+          content = S.content store.old;
+          names_before = S.faults store.old;
+          names_after = S.faults store.new;
+          out_before = O.written out.old;
+          out_after = O.written out.new;
+          faults_before = O.faults out.old;
+          faults_after = O.faults out.new;
+        }) cause
+        × WritesMessage (message_of cause) (E.written err.old) (E.written err.new) (E.faults err.old) (E.faults err.new) }
 
-    // The words ask no question.
-    ensures words_only { result ≡ Status.Words → IsNone (question_of (texts words.now)) }
-    ensures words_where { IsNone (question_of (texts words.now)) → (result ≡ Status.Words) ⊎ (result ≡ Status.Memory) }
+    // Where the words break a rule, or told contents are refused, that is the status, unless memory was wanting or a read failed.
+    ensures words_where { IsErr (command_of (texts words.now)) → (result ≡ Status.Words) ⊎ (result ≡ Status.Memory) }
+    ensures refused_where { IfOk (command_of (texts words.now)) (λ command. (found : ARefused)
+        → IsFirstRefusal (S.content store.old) (files_of command) found
+        → (result ≡ status_of_refusal found) ⊎ (result ≡ Status.Memory)
+        ⊎ ((result ≡ Status.Outside) × AReadFailed command (S.content store.old) (S.faults store.old) (S.faults store.new))) }
 
-    // The content of the file is refused.
-    ensures refused_only { (result ≡ Status.Table) ⊎ (result ≡ Status.Limit) → Asks (texts words.now)
-        (λ question. IfSome (S.content store.old question.edges) (λ bytes. refusal_of bytes ≡ Some result)) }
-    ensures refused_where { IfSome (question_of (texts words.now)) (λ question. IfSome (S.content store.old question.edges)
-        (λ bytes. IfSome (refusal_of bytes) (λ status. (result ≡ status) ⊎ (result ≡ Status.Memory)
-        ⊎ ((result ≡ Status.Outside) × HasRisen (S.faults store.old question.edges) (S.faults store.new question.edges))))) }
-
-    // Where nothing is refused and nothing failed, all was done.
-    ensures completes { IfSome (question_of (texts words.now)) (λ question. IfSome (S.content store.old question.edges)
-        (λ bytes. refusal_of bytes ≡ None
-        → ¬ HasRisen (S.faults store.old question.edges) (S.faults store.new question.edges)
+    // Where nothing is refused and nothing failed, all was done, unless memory was wanting.
+    ensures completes { IfOk (command_of (texts words.now)) (λ command. All (IsKnownAccepted (S.content store.old)) (files_of command)
+        → All (λ file. ¬ HasRisen (S.faults store.old file.name) (S.faults store.new file.name)) (files_of command)
         → ¬ HasRisen (O.faults out.old) (O.faults out.new)
-        → (result ≡ Status.Done) ⊎ (result ≡ Status.Memory))) }
+        → (result ≡ Status.Done) ⊎ (result ≡ Status.Memory)) }
 
     // What stays.
     ensures unchanged { result ≢ Status.Done → result ≢ Status.Outside → O.written out.new ≡ O.written out.old }
-    ensures tells { is_some (O.written out.new) ≡ is_some (O.written out.old) }
+    ensures out_tells { is_some (O.written out.new) ≡ is_some (O.written out.old) }
     ensures out_faults { O.faults out.old ≤ O.faults out.new }
-    ensures err { err.new ≡ err.old }
+    ensures err_tells { is_some (E.written err.new) ≡ is_some (E.written err.old) }
+    ensures err_faults { E.faults err.old ≤ E.faults err.new }
     ensures content { S.content store.new ≡ S.content store.old }
-    ensures store_faults { NoneFell (S.faults store.old) (S.faults store.new) }
+    ensures names_faults { NoneFell (S.faults store.old) (S.faults store.new) }
 {
-    let Some(question) = read_question(words) else {
-        return Status::Words;
-    };
-    match answer(alloc, &question, store) {
-        Ok(rows) => match write_table(out, &rows) {
-            Ok(()) => Status::Done,
-            Err(_) => Status::Outside,
-        },
-        Err(refused) => status_of(refused),
+    match print_table(alloc, words, store, out) {
+        Ok(()) => Status::Done,
+        Err(cause) => {
+            let _ = write_all(err, message(cause).as_str().as_bytes());
+            cause.status()
+        }
     }
 }
 
-/// The status of a cause why there is no answer.
-fn status_of(refused: Refused) -> Status
-    ensures { result ≡ refusing.status_of refused }
+/// Writes the table that a command line asks for, or tells the cause why it isn't written whole.
+fn print_table<S: Store, O: Sink>(
+    alloc: Global,
+    words: &[String],
+    store: &mut S,
+    out: &mut O,
+) -> Result<(), Cause>
+    ensures done { IfOk result (λ _. Asks (texts words.now)
+        (λ command. WritesAllowed command (S.content store.old) (O.written out.old) (O.written out.new))) }
+    ensures cause { IfErr result (Holds (texts words.now) (record {
+      content = S.content store.old;
+      names_before = S.faults store.old;
+      names_after = S.faults store.new;
+      out_before = O.written out.old;
+      out_after = O.written out.new;
+      faults_before = O.faults out.old;
+      faults_after = O.faults out.new;
+    })) }
+    ensures words_where { IfErr (command_of (texts words.now)) (λ fault. IsErrOf result (Cause.Words fault) ⊎ IsErrOf result (Cause.Refused refused.Memory)) }
+    ensures refused_where { IfOk (command_of (texts words.now)) (λ command. (found : ARefused)
+        → IsFirstRefusal (S.content store.old) (files_of command) found
+        → IsErrOf result (Cause.Refused found) ⊎ IsErrOf result (Cause.Refused refused.Memory)
+        ⊎ ((role : ARole) × IsErrOf result (Cause.Refused (refused.ReadFailed role)))) }
+    ensures out_faults { O.faults out.old ≤ O.faults out.new }
+    ensures content { S.content store.new ≡ S.content store.old }
+    ensures names_faults { NoneFell (S.faults store.old) (S.faults store.new) }
 {
-    match refused {
-        Refused::ReadFailed => Status::Outside,
-        Refused::TooLong => Status::Limit,
-        Refused::Table(fault) => status_of_fault(fault),
-        Refused::Memory => Status::Memory,
-    }
-}
-
-/// The status of a table's first fault.
-fn status_of_fault(fault: TableFault) -> Status
-    ensures { result ≡ refusing.status_of_fault fault }
-{
-    match fault {
-        TableFault::TooManyRows(_) | TableFault::CostSum(_) => Status::Limit,
-        _ => Status::Table,
-    }
+    let command = read_words(alloc, words)?;
+    let answered = answer(alloc, &command, store)?;
+    write_table(out, &answered.rows)?;
+    Ok(())
 }

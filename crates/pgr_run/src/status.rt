@@ -6,13 +6,13 @@ ghost use Rattle.pgr_run.specs.Status.{number_of};
 pub enum Status {
     /// 0: the text of the table was written whole.
     Done,
-    /// 1: a read of the named file failed, or a write to the output.
+    /// 1: a read of a file that the words name failed, or a write to the output.
     Outside,
     /// 2: the words aren't a command.
     Words,
-    /// 3: the table isn't accepted, for another cause than its limits.
+    /// 3: a table isn't accepted, for another cause than its limits.
     Table,
-    /// 4: the file is longer than the limit, has too many rows, or its costs have too great a sum.
+    /// 4: a file is longer than the limit, or a table has too many rows or too great a sum of costs.
     Limit,
     /// 5: memory was wanting.
     Memory,
