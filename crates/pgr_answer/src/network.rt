@@ -33,6 +33,7 @@ pub(crate) fn network_of(
     ensures network { IfOk result (λ network. IsNetwork network.links.items network.names
         (⟦<ListGraph as Graph>⟧.count network.graph) (⟦<ListGraph as Graph>⟧.ins network.graph)) }
 {
+    // From this call it is known that a table has few enough rows for its names to be numbered.
     let _rows = edges.len();
     links_fit(edges);
     let links = links_of(alloc, edges, directed)?;
