@@ -3,7 +3,7 @@ use pgr_outside::MemoryStore;
 use pgr_rows::{CostRow, PathRow, Rows};
 use pgr_table::TableFault;
 use pgr_words::read_words;
-use std::alloc::Global;
+use std::alloc::{AllocError, Global};
 use std::process::Abort;
 use std::test::Fail;
 
@@ -53,6 +53,11 @@ fn assert_costs(
     assert_eq!(rt; rows.as_slice(), costs);
     assert!(rt; answered.notes.is_empty());
     Ok(())
+}
+
+/// The text of a refusal.
+fn shown(alloc: Global, refused: Refused) -> Result<String, AllocError> {
+    format!(in alloc; "{refused}")
 }
 
 /// The row with this number of the path from 1 to 4.
@@ -128,8 +133,21 @@ fn bad_combinations_are_told_behind_good_edges(rt: HostRuntime) -> Result<(), Fa
 fn a_role_is_called_as_the_option_that_names_its_file(rt: HostRuntime) -> Result<(), Fail> {
     assert_eq!(rt; Role::Edges.name(), "edges");
     assert_eq!(rt; Role::Combinations.name(), "combinations");
-    let refused = Refused::ReadFailed(Role::Combinations);
-    let shown = format!(in rt.alloc(); "{refused}")?;
-    assert_eq!(rt; shown.as_str(), "combinations: read failed");
+    Ok(())
+}
+
+#[test]
+fn a_refusal_is_shown_behind_its_role(rt: HostRuntime) -> Result<(), Fail> {
+    let failed = shown(rt.alloc(), Refused::ReadFailed(Role::Combinations))?;
+    assert_eq!(rt; failed.as_str(), "combinations: read failed");
+    let long = shown(rt.alloc(), Refused::TooLong(Role::Edges))?;
+    assert_eq!(rt; long.as_str(), "edges: file too long");
+    let bad = shown(
+        rt.alloc(),
+        Refused::Table(Role::Edges, TableFault::NoHeader),
+    )?;
+    assert_eq!(rt; bad.as_str(), "edges: no header");
+    let memory = shown(rt.alloc(), Refused::Memory)?;
+    assert_eq!(rt; memory.as_str(), "want of memory");
     Ok(())
 }
