@@ -10,3 +10,4 @@ pub mod OneTable
 pub mod LeastCosts
 pub mod FirstRefusals
 pub mod ReadTables
+pub mod Examples

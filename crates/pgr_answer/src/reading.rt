@@ -1,4 +1,4 @@
-ghost use Rattle.std.specs.Prelude.{◌≡◌, Ok, Some, None, List, [], IfOk, IfErr, IfSome, IsSomeAnd, IsErrOf, IsOk, MatchOption, option_map};
+ghost use Rattle.std.specs.Prelude.{◌≡◌, Ok, None, IfOk, IfErr, IfSome};
 ghost use Rattle.pgr_outside.specs.Faults.{NoneFell};
 ghost use Rattle.pgr_table.specs.Judging.{judged_edges, judged_pairs};
 ghost use Rattle.pgr_answer.specs.Refusals.{IsRefused, from_read, from_table};
@@ -38,11 +38,7 @@ pub(crate) fn edges_in<S: Store>(
 }
 
 /// The table of combinations that a file is, or why it is none.
-pub(crate) fn combinations_in<S: Store>(
-    alloc: Global,
-    name: &str,
-    store: &mut S,
-) -> Result<PairTable, Refused>
+fn combinations_in<S: Store>(alloc: Global, name: &str, store: &mut S) -> Result<PairTable, Refused>
     ensures table { IfOk result (λ rows. IfSome (S.content store.old name.now)
         (λ bytes. (refusal_of role.Combinations bytes ≡ None) × (judged_pairs bytes ≡ Ok rows))) }
     ensures refused { IfErr result (IsRefused (S.content store.old) (S.faults store.old) (S.faults store.new) (record { role = role.Combinations; name = name.now })) }
