@@ -5,7 +5,8 @@ ghost use Rattle.pgr_walks.specs.declared.label.Label.{Label};
 ghost use Rattle.pgr_walks.specs.Walk.{IsWalk};
 ghost use Rattle.pgr_walks.specs.RouteOrder.{IsLeast};
 ghost use Rattle.pgr_walks.specs.Label.{LeadsTo, IsLabel};
-ghost use Rattle.pgr_walks.specs.Graph.{IsLinkOf, Fits};
+ghost use Rattle.pgr_walks.specs.Graph.{Fits};
+ghost use Rattle.pgr_walks.specs.LinksOf.{LinksOf};
 ghost use Rattle.pgr_numbers.specs.Names.{AreNumbered, id_at, named};
 ghost use Rattle.pgr_numbers.specs.Numbering.{HasExactly};
 
@@ -19,7 +20,7 @@ pub fn graph_of_numbered_links_fits<G: Graph>(g: &G)
         → AreNumbered names links numbers
         → HasExactly (G.count g.now) (G.ins g.now) numbers
         → Fits (Contains links)
-        → Fits (IsLinkOf (G.count g.now) (G.ins g.now)) }
+        → Fits (LinksOf G.Graph g.now) }
 {}
 
 /// The least walk over a graph of the numbered links stands for the least walk by ids.
@@ -33,14 +34,14 @@ pub fn least_walk_of_graph_is_least_by_ids<G: Graph>(g: &G)
         → HasExactly (G.count g.now) (G.ins g.now) numbers
         → s < length names
         → t < length names
-        → IsLeast nat_cmp (LeadsTo (IsLinkOf (G.count g.now) (G.ins g.now)) (t ∷ []) s) walk
+        → IsLeast nat_cmp (LeadsTo (LinksOf G.Graph g.now) (t ∷ []) s) walk
         → IsLeast int_cmp (λ w. IsWalk (Contains links) (id_at names s) w (id_at names t)) (map (named names) walk) }
     ensures none { (names : List ℤ) (links : List (LinkOf ℤ)) (numbers : List (LinkOf ℕ)) (s t : ℕ)
         → AreNumbered names links numbers
         → HasExactly (G.count g.now) (G.ins g.now) numbers
         → s < length names
         → t < length names
-        → ((walk : List (LinkOf ℕ)) → LeadsTo (IsLinkOf (G.count g.now) (G.ins g.now)) (t ∷ []) s walk → ⊥)
+        → ((walk : List (LinkOf ℕ)) → LeadsTo (LinksOf G.Graph g.now) (t ∷ []) s walk → ⊥)
         → (walk : List (LinkOf ℤ))
         → IsWalk (Contains links) (id_at names s) walk (id_at names t) → ⊥ }
 
@@ -51,7 +52,7 @@ pub fn least_walk_of_graph_is_least_by_ids<G: Graph>(g: &G)
         → HasExactly (G.count g.now) (G.ins g.now) numbers
         → All (λ t. t < length names) targets
         → s < length names
-        → IsLeast nat_cmp (LeadsTo (IsLinkOf (G.count g.now) (G.ins g.now)) targets s) walk
+        → IsLeast nat_cmp (LeadsTo (LinksOf G.Graph g.now) targets s) walk
         → IsLeast int_cmp (LeadsTo (Contains links) (map (id_at names) targets) (id_at names s)) (map (named names) walk) }
 {}
 
@@ -65,6 +66,6 @@ pub fn labels_of_graph_are_labels_by_ids<G: Graph>(g: &G)
         → HasExactly (G.count g.now) (G.ins g.now) numbers
         → All (λ t. t < length names) targets
         → s < length names
-        → IsLabel (IsLinkOf (G.count g.now) (G.ins g.now)) targets s label
+        → IsLabel (LinksOf G.Graph g.now) targets s label
         → IsLabel (Contains links) (map (id_at names) targets) (id_at names s) label }
 {}

@@ -1,5 +1,6 @@
 ghost use Rattle.std.specs.Prelude.{◌≡◌, ℕ, ◌<◌, ◌↔◌, List, IfOk, IfSome, IfNone, IsSome};
-ghost use Rattle.pgr_walks.specs.Graph.{Fits, IsLinkOf};
+ghost use Rattle.pgr_walks.specs.Graph.{Fits};
+ghost use Rattle.pgr_walks.specs.LinksOf.{LinksOf};
 ghost use Rattle.pgr_walks.specs.Label.{HoldsLabels};
 ghost use Rattle.pgr_route.specs.Least.{IsLeastFrom, LeadsNowhere};
 ghost use Rattle.pgr_route.specs.Tight.{label_at};
@@ -24,11 +25,11 @@ pub fn least_route<G: Graph>(
     from: u32,
     room: &Room,
 ) -> Result<Option<Route>, NoMemory>
-    requires fits { Fits (IsLinkOf (G.count g.now) (G.ins g.now)) }
+    requires fits { Fits (LinksOf G.Graph g.now) }
     requires from { from < G.count g.now }
-    requires room { (targets : List ℕ) × HoldsLabels (G.count g.now) (IsLinkOf (G.count g.now) (G.ins g.now)) targets room.now }
-    ensures least { IfOk result (λ found. IfSome found (IsLeastFrom (G.count g.now) (IsLinkOf (G.count g.now) (G.ins g.now)) room.now from)) }
-    ensures none { IfOk result (λ found. IfNone found (LeadsNowhere (G.count g.now) (IsLinkOf (G.count g.now) (G.ins g.now)) room.now from)) }
+    requires room { (targets : List ℕ) × HoldsLabels (G.count g.now) (LinksOf G.Graph g.now) targets room.now }
+    ensures least { IfOk result (λ found. IfSome found (IsLeastFrom (G.count g.now) (LinksOf G.Graph g.now) room.now from)) }
+    ensures none { IfOk result (λ found. IfNone found (LeadsNowhere (G.count g.now) (LinksOf G.Graph g.now) room.now from)) }
     ensures label { IfOk result (λ found. IsSome found ↔ IsSome (label_at room.now from)) }
 {
     if room.label(from).is_none() {

@@ -1,5 +1,6 @@
 ghost use Rattle.std.specs.Prelude.{◌≡◌, ◌≤◌, All, IfOk};
-ghost use Rattle.pgr_walks.specs.Graph.{IsLinkOf, Fits};
+ghost use Rattle.pgr_walks.specs.Graph.{Fits};
+ghost use Rattle.pgr_walks.specs.LinksOf.{LinksOf};
 ghost use Rattle.pgr_walks.specs.ListGraph.{HasEndsBelow};
 ghost use Rattle.pgr_walks.specs.Walk.{IsWithoutRepeats};
 
@@ -60,7 +61,7 @@ fn graph_of_five(alloc: Global, links: Vec<Link>) -> Result<ListGraph, NoMemory>
     requires once { IsWithoutRepeats links.items }
     requires costs { All (λ link. link.cost ≤ 9) links.items }
     ensures size { IfOk result (λ graph. ⟦<ListGraph as Graph>⟧.count graph ≡ 5) }
-    ensures fits { IfOk result (λ graph. Fits (IsLinkOf (⟦<ListGraph as Graph>⟧.count graph) (⟦<ListGraph as Graph>⟧.ins graph))) }
+    ensures fits { IfOk result (λ graph. Fits (LinksOf ⟦<ListGraph as Graph>⟧ graph)) }
 {
     let graph = ListGraph::from_links(alloc, 5, links)?;
     small_costs_fit(&graph);

@@ -4,6 +4,7 @@ pub mod Walk
 pub mod RouteOrder
 pub mod Label
 pub mod Graph
+pub mod LinksOf
 pub mod ListGraph
 pub mod LinkOrders
 pub mod RouteOrders

@@ -6,7 +6,8 @@ ghost use Rattle.pgr_walks.specs.Label.{IsLeastLabel, LeadsTo, HoldsLabels};
 ghost use Rattle.std.specs.Ordering.{nat_cmp};
 ghost use Rattle.pgr_walks.specs.RouteOrder.{IsLeast, Precedes};
 ghost use Rattle.pgr_walks.specs.RouteOrders.{IsClosedUnderCuts};
-ghost use Rattle.pgr_walks.specs.Graph.{IsLinkOf, Fits, greatest};
+ghost use Rattle.pgr_walks.specs.Graph.{Fits, greatest};
+ghost use Rattle.pgr_walks.specs.LinksOf.{LinksOf};
 ghost use Rattle.pgr_walks.specs.Loopless.{CanBeLoopless};
 
 use crate::graph::Graph;
@@ -16,8 +17,8 @@ use crate::graph::Graph;
 /// A law; the call does nothing.
 pub fn every_walk_can_be_loopless<G: Graph>(g: &G)
     ensures { (s t : ℕ) (walk : List (LinkOf ℕ))
-        → IsWalk (IsLinkOf (G.count g.now) (G.ins g.now)) s walk t
-        → CanBeLoopless (IsLinkOf (G.count g.now) (G.ins g.now)) s walk t }
+        → IsWalk (LinksOf G.Graph g.now) s walk t
+        → CanBeLoopless (LinksOf G.Graph g.now) s walk t }
 {}
 
 /// A walk that comes to no vertex twice has fewer links than the graph has vertices.
@@ -26,7 +27,7 @@ pub fn every_walk_can_be_loopless<G: Graph>(g: &G)
 pub fn loopless_walks_are_short<G: Graph>(g: &G)
     ensures { (s t : ℕ) (walk : List (LinkOf ℕ))
         → s < G.count g.now
-        → IsWalk (IsLinkOf (G.count g.now) (G.ins g.now)) s walk t
+        → IsWalk (LinksOf G.Graph g.now) s walk t
         → IsWithoutRepeats (vertices_of s walk)
         → hops_of walk < G.count g.now }
 {}
@@ -35,10 +36,10 @@ pub fn loopless_walks_are_short<G: Graph>(g: &G)
 ///
 /// A law; the call does nothing.
 pub fn least_labels_are_small<G: Graph>(g: &G)
-    requires fits { Fits (IsLinkOf (G.count g.now) (G.ins g.now)) }
+    requires fits { Fits (LinksOf G.Graph g.now) }
     ensures { (targets : List ℕ) (v : ℕ) (label : Label)
         → v < G.count g.now
-        → IsLeastLabel (IsLinkOf (G.count g.now) (G.ins g.now)) targets v label
+        → IsLeastLabel (LinksOf G.Graph g.now) targets v label
         → (label.cost ≤ greatest) × (label.hops < G.count g.now) }
 {}
 
@@ -47,9 +48,9 @@ pub fn least_labels_are_small<G: Graph>(g: &G)
 /// A law; the call does nothing.
 pub fn small_costs_fit<G: Graph>(g: &G)
     ensures { (most : ℕ)
-        → ((link : LinkOf ℕ) → IsLinkOf (G.count g.now) (G.ins g.now) link → link.cost ≤ most)
+        → ((link : LinkOf ℕ) → LinksOf G.Graph g.now link → link.cost ≤ most)
         → most * G.count g.now ≤ greatest
-        → Fits (IsLinkOf (G.count g.now) (G.ins g.now)) }
+        → Fits (LinksOf G.Graph g.now) }
 {}
 
 /// Of the walks from a vertex to some targets one at most is least, and it comes to no vertex twice.
@@ -57,11 +58,11 @@ pub fn small_costs_fit<G: Graph>(g: &G)
 /// A law; the call does nothing.
 pub fn one_walk_to_targets_is_least<G: Graph>(g: &G)
     ensures one { (targets : List ℕ) (v : ℕ) (walk other : List (LinkOf ℕ))
-        → IsLeast nat_cmp (LeadsTo (IsLinkOf (G.count g.now) (G.ins g.now)) targets v) walk
-        → IsLeast nat_cmp (LeadsTo (IsLinkOf (G.count g.now) (G.ins g.now)) targets v) other
+        → IsLeast nat_cmp (LeadsTo (LinksOf G.Graph g.now) targets v) walk
+        → IsLeast nat_cmp (LeadsTo (LinksOf G.Graph g.now) targets v) other
         → walk ≡ other }
     ensures loopless { (targets : List ℕ) (v : ℕ) (walk : List (LinkOf ℕ))
-        → IsLeast nat_cmp (LeadsTo (IsLinkOf (G.count g.now) (G.ins g.now)) targets v) walk
+        → IsLeast nat_cmp (LeadsTo (LinksOf G.Graph g.now) targets v) walk
         → IsWithoutRepeats (vertices_of v walk) }
 {}
 
@@ -70,13 +71,13 @@ pub fn one_walk_to_targets_is_least<G: Graph>(g: &G)
 /// A law; the call does nothing.
 pub fn one_walk_between_ends_is_least<G: Graph>(g: &G)
     ensures one { (s t : ℕ) (walk other : List (LinkOf ℕ))
-        → IsLeast nat_cmp (λ walk. IsWalk (IsLinkOf (G.count g.now) (G.ins g.now)) s walk t) walk
-        → IsLeast nat_cmp (λ walk. IsWalk (IsLinkOf (G.count g.now) (G.ins g.now)) s walk t) other
+        → IsLeast nat_cmp (λ walk. IsWalk (LinksOf G.Graph g.now) s walk t) walk
+        → IsLeast nat_cmp (λ walk. IsWalk (LinksOf G.Graph g.now) s walk t) other
         → walk ≡ other }
     ensures loopless { (s t : ℕ) (walk : List (LinkOf ℕ))
         → s ≢ t
-        → IsLeast nat_cmp (λ walk. IsWalk (IsLinkOf (G.count g.now) (G.ins g.now)) s walk t) walk
-        → IsLooplessRoute (IsLinkOf (G.count g.now) (G.ins g.now)) s walk t }
+        → IsLeast nat_cmp (λ walk. IsWalk (LinksOf G.Graph g.now) s walk t) walk
+        → IsLooplessRoute (LinksOf G.Graph g.now) s walk t }
 {}
 
 /// Of a set of walks from a vertex to another, or to itself, one is least where the set has a walk, and with
@@ -86,7 +87,7 @@ pub fn one_walk_between_ends_is_least<G: Graph>(g: &G)
 pub fn closed_sets_have_a_least_walk<G: Graph>(g: &G)
     ensures { (s t : ℕ) (has : List (LinkOf ℕ) → Bool) (member : List (LinkOf ℕ))
         → s < G.count g.now
-        → ((walk : List (LinkOf ℕ)) → has walk ≡ true → IsWalk (IsLinkOf (G.count g.now) (G.ins g.now)) s walk t)
+        → ((walk : List (LinkOf ℕ)) → has walk ≡ true → IsWalk (LinksOf G.Graph g.now) s walk t)
         → IsClosedUnderCuts s (λ walk. has walk ≡ true)
         → has member ≡ true
         → (least : List (LinkOf ℕ)) × IsLeast nat_cmp (λ walk. has walk ≡ true) least × IsWithoutRepeats (vertices_of s least) }
@@ -112,8 +113,8 @@ pub fn one_walk_of_a_set_is_least<G: Graph>(g: &G)
 /// A law; the call does nothing.
 pub fn one_walk_precedes_another<G: Graph>(g: &G)
     ensures { (s t u : ℕ) (walk other : List (LinkOf ℕ))
-        → IsWalk (IsLinkOf (G.count g.now) (G.ins g.now)) s walk t
-        → IsWalk (IsLinkOf (G.count g.now) (G.ins g.now)) s other u
+        → IsWalk (LinksOf G.Graph g.now) s walk t
+        → IsWalk (LinksOf G.Graph g.now) s other u
         → walk ≢ other
         → Precedes nat_cmp walk other ⊎ Precedes nat_cmp other walk }
 {}
@@ -123,7 +124,7 @@ pub fn one_walk_precedes_another<G: Graph>(g: &G)
 /// A law; the call does nothing.
 pub fn targets_have_labels_of_zero<G: Graph>(g: &G)
     ensures { (targets : List ℕ) (labels : List (Option Label)) (v : ℕ)
-        → HoldsLabels (G.count g.now) (IsLinkOf (G.count g.now) (G.ins g.now)) targets labels
+        → HoldsLabels (G.count g.now) (LinksOf G.Graph g.now) targets labels
         → v < G.count g.now
         → (Contains targets v) ↔ (slice_index_or labels v None ≡ Some (record { cost = 0; hops = 0 })) }
 {}

@@ -4,7 +4,8 @@ ghost use Rattle.std.specs.List.Sorted.{IsNonDecreasingBy};
 ghost use Rattle.pgr_walks.specs.declared.link.LinkOf.{LinkOf};
 ghost use Rattle.pgr_walks.specs.Link.{link_cmp};
 ghost use Rattle.pgr_walks.specs.Walk.{IsWithoutRepeats};
-ghost use Rattle.pgr_walks.specs.Graph.{IsStrictlyRising, IsLinkOf};
+ghost use Rattle.pgr_walks.specs.Graph.{IsStrictlyRising};
+ghost use Rattle.pgr_walks.specs.LinksOf.{LinksOf};
 ghost use Rattle.pgr_walks.specs.ListGraph.{links_from, links_into, arrival_cmp, HasEndsBelow, HoldTheSame};
 
 use crate::graph::Graph;
@@ -38,9 +39,7 @@ impl ListGraph {
         requires ends { All (HasEndsBelow size) links.items }
         requires once { IsWithoutRepeats links.items }
         ensures size { IfOk result (λ graph. ⟦<ListGraph as Graph>⟧.count graph ≡ size) }
-        ensures links { IfOk result
-            (λ graph. (link : LinkOf ℕ) → IsLinkOf (⟦<ListGraph as Graph>⟧.count graph) (⟦<ListGraph as Graph>⟧.ins graph) link
-            ↔ Contains links.items link) }
+        ensures links { IfOk result (λ graph. (link : LinkOf ℕ) → LinksOf ⟦<ListGraph as Graph>⟧ graph link ↔ Contains links.items link) }
     {
         let mut by_start = Vec::from_slice(alloc, links.as_slice()).map_err(|_| NoMemory)?;
         by_start.sort_unstable();
