@@ -1,22 +1,7 @@
 -- Bytes that are written in pieces: what was added so far and what is left are the whole.
-use Rattle.std.proofs.Common.{◌≡◌, ℕ, List, [], ◌++◌, take, drop, Option, Some, None, append_assoc, append-nil, ap, sym, refl, ◌∙◌}
+use Rattle.std.proofs.Common.{◌≡◌, ℕ, List, [], ◌++◌, take, drop, Option, append_assoc, append-nil, ap, ◌∙◌}
 use Rattle.std.proofs.lemmas.List.{take-append-drop}
-use Rattle.pgr_outside.specs.Sink.{with_added, AddsPrefix, with_added-twice}
-
--- of the bytes, all before the rest were added
-pub record HasGained (before after : Option (List ℕ)) (bytes rest : List ℕ) : Type 0 where
-  pub front : List ℕ
-  pub split : front ++ rest ≡ bytes
-  pub gained : after ≡ with_added before front
-
--- adding nothing changes nothing
-with_added-nil : (before : Option (List ℕ)) → with_added before [] ≡ before
-with_added-nil None = refl
-with_added-nil (Some told) = ap Some (append-nil told)
-
--- nothing was added yet
-pub HasGained-none : (before : Option (List ℕ)) (bytes : List ℕ) → HasGained before before bytes bytes
-HasGained-none before bytes = record { front = []; split = refl; gained = sym (with_added-nil before) }
+use Rattle.pgr_outside.specs.Sink.{with_added, AddsPrefix, HasGained, with_added-twice}
 
 -- the next piece was added
 pub HasGained-more : (before now after : Option (List ℕ)) (bytes rest left : List ℕ) (count : ℕ) → HasGained before now bytes rest → after ≡ with_added now (take count rest) → left ≡ drop count rest → HasGained before after bytes left

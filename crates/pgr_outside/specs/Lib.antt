@@ -3,6 +3,7 @@ pub mod Lists
 pub mod Faults
 pub mod Store
 pub mod Sink
+pub mod Parts
 pub mod Reading
 pub mod Calls
 pub mod Files

@@ -1,5 +1,6 @@
 use crate::{
-    Failed, MemorySink, MemoryStore, ReadRefused, Store, StoreFault, read_file, write_all,
+    Failed, MemorySink, MemoryStore, Part, ReadRefused, Store, StoreFault, read_file, write_all,
+    write_parts,
 };
 use std::alloc::{AllocError, Global};
 use std::test::Fail;
@@ -62,5 +63,32 @@ fn a_second_write_that_fails_leaves_the_front(rt: HostRuntime) -> Result<(), Fai
     let mut sink = MemorySink::with_room(alloc, 5, 2, Vec::from_slice(alloc, &[2])?)?;
     assert_eq!(rt; write_all(&mut sink, b"12345"), Err(Failed));
     assert_eq!(rt; sink.bytes(), b"12".as_slice());
+    Ok(())
+}
+
+#[test]
+fn parts_are_one_text_and_long_words_pass_whole(rt: HostRuntime) -> Result<(), Fail> {
+    let alloc = rt.alloc();
+    let mut sink = MemorySink::with_room(alloc, 1000, 1000, Vec::new(alloc))?;
+    let parts = [
+        Part::Words("record "),
+        Part::Number(18446744073709551615),
+        Part::Words(""),
+        Part::Signed(-7),
+    ];
+    write_parts(&mut sink, &parts)?;
+    assert_eq!(rt; sink.bytes(), b"record 18446744073709551615-7".as_slice());
+    let mut long = String::new(alloc);
+    for _ in 0..300 {
+        long.push('x')?;
+    }
+    let mut sink = MemorySink::with_room(alloc, 1000, 1000, Vec::from_slice(alloc, &[3])?)?;
+    let parts = [
+        Part::Words("ab"),
+        Part::Words(long.as_str()),
+        Part::Words("c"),
+    ];
+    assert_eq!(rt; write_parts(&mut sink, &parts), Err(Failed));
+    assert_eq!(rt; sink.bytes().len(), 302);
     Ok(())
 }

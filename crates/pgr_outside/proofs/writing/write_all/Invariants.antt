@@ -1,5 +1,5 @@
 use Rattle.std.proofs.Common.{◌≤◌, length}
-use Rattle.pgr_outside.proofs.Pieces.{HasGained}
+use Rattle.pgr_outside.specs.Sink.{HasGained}
 use Rattle.pgr_outside.proofs.writing.write_all.Given as goal
 
 -- what is left, behind what was added, is the whole; and the count hasn't fallen
