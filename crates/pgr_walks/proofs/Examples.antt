@@ -1,5 +1,5 @@
 -- Small cases of walks and of the route order, computed.
-use Rattle.std.proofs.Common.{◌≡◌, ℕ, ℤ, pos, List, [], ◌∷◌, refl, Less, Greater, Equal, arith, inl, inr}
+use Rattle.std.proofs.Common.{◌≡◌, ℕ, pos, List, [], ◌∷◌, refl, Less, Greater, Equal, arith, inl, inr}
 use Rattle.std.specs.Prelude.{Contains}
 use Rattle.std.specs.Ordering.{nat_cmp}
 use Rattle.pgr_walks.specs.declared.link.LinkOf.{LinkOf}

@@ -7,3 +7,8 @@ pub mod SmallCosts
 pub mod LeastExists
 pub mod TargetLabels
 pub mod Examples
+pub mod ShownThrough
+pub mod BackWalks
+pub mod TurnedLinks
+pub mod LinkTests
+pub mod SparedLinks

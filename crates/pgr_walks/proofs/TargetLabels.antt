@@ -1,10 +1,10 @@
 -- The labels of targets: cost 0 and no hops, and those of no other vertex.
-use Rattle.std.proofs.Common.{◌≡◌, ℕ, zero, suc, List, [], ◌∷◌, Option, Some, None, length, refl, sym, ap, ◌∙◌, subst, arith, ◌⊎◌, inl, inr}
+use Rattle.std.proofs.Common.{◌≡◌, List, [], ◌∷◌, Option, Some, None, length, refl, sym, ap, ◌∙◌, subst, arith, inl, inr}
 use Rattle.std.specs.Prelude.{Contains}
 use Rattle.std.proofs.lemmas.Option.{same_Some}
 use Rattle.pgr_walks.specs.declared.link.LinkOf.{LinkOf}
 use Rattle.pgr_walks.specs.declared.label.Label.{Label}
-use Rattle.pgr_walks.specs.Label.{label_of, AtMost, LeadsTo, IsLeastLabel, IsLabel}
+use Rattle.pgr_walks.specs.Label.{AtMost, LeadsTo, IsLabel}
 
 -- the label of the walk without links
 abbrev pub nothing : Label

@@ -1,14 +1,11 @@
 -- Graphs by the links out of each vertex and into it, their laws, and graphs that fit.
 use Rattle.std.specs.Prelude.{◌≡◌, ℕ, ◌<◌, ◌≤◌, ◌↔◌, List, Contains}
-use Rattle.std.specs.declared.cmp.Ordering.{Ordering}
-use Rattle.std.specs.declared.cmp.Ordering.TheVariants.{Less}
 pub use Rattle.pgr_outside.specs.Limits.{greatest}
 pub use Rattle.pgr_outside.specs.Lists.{IsStrictlyRising}
 use Rattle.std.specs.Ordering.{nat_cmp}
 use Rattle.pgr_walks.specs.declared.link.LinkOf.{LinkOf}
 use Rattle.pgr_walks.specs.Link.{step_cmp, entry_cmp}
 use Rattle.pgr_walks.specs.Walk.{IsLooplessRoute, cost_of}
-use Rattle.std.specs.Prelude.{length, slice_index_or}
 
 -- the laws of the links out of a vertex v below the size, and into it
 pub record IsLawfulAt (size : ℕ) (outs ins : ℕ → List (LinkOf ℕ)) (v : ℕ) : Type 0 where

@@ -34,6 +34,18 @@ abbrev pub IsLabel : {V : Type 0} → (LinkOf V → Type 0) → List V → V →
 IsLabel Has targets v None = (walk : List (LinkOf _)) → LeadsTo Has targets v walk → ⊥
 IsLabel Has targets v (Some label) = IsLeastLabel Has targets v label
 
+-- a label that some walk from root to v has, and that is at most that of every such walk
+pub record IsLeastLabelFrom {V : Type 0} (Has : LinkOf V → Type 0) (root v : V) (label : Label) : Type 0 where
+  pub walk : List (LinkOf V)
+  pub is_walk : IsWalk Has root walk v
+  pub label_is : label_of walk ≡ label
+  pub least : (other : List (LinkOf V)) → IsWalk Has root other v → AtMost label (label_of other)
+
+-- the least label of the walks from root to v, and none exactly where there is no such walk
+abbrev pub IsLabelFrom : {V : Type 0} → (LinkOf V → Type 0) → V → V → Option Label → Type 0
+IsLabelFrom Has root v None = (walk : List (LinkOf _)) → IsWalk Has root walk v → ⊥
+IsLabelFrom Has root v (Some label) = IsLeastLabelFrom Has root v label
+
 -- the labels of the vertices below the size, by number: of each the least over all walks from it to a target
 pub record HoldsLabels (size : ℕ) (Has : LinkOf ℕ → Type 0) (targets : List ℕ) (labels : List (Option Label)) : Type 0 where
   pub size_is : length labels ≡ size

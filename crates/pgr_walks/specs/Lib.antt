@@ -10,3 +10,8 @@ pub mod LinkOrders
 pub mod RouteOrders
 pub mod ListGraphLaws
 pub mod Loopless
+pub mod Through
+pub mod Reversed
+pub mod ReversedLaws
+pub mod Without
+pub mod WithoutLaws

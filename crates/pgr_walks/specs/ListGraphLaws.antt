@@ -17,7 +17,7 @@ use Rattle.pgr_walks.specs.ListGraph.{links_from, links_into, arrival_cmp, HasEn
 use Rattle.pgr_walks.specs.LinkOrders.{link_total, link_tie, nat_tie}
 
 -- what a filter leaves is in the list, and passes
-filter_gives : {X : Type 0} (p : X → Bool) (xs : List X) (x : X) → Contains (filter p xs) x → Contains xs x × (p x ≡ true)
+pub filter_gives : {X : Type 0} (p : X → Bool) (xs : List X) (x : X) → Contains (filter p xs) x → Contains xs x × (p x ≡ true)
 filter_gives p xs x h =
     (All-contains (Contains xs) (filter p xs) x (All-filter p (Contains xs) xs (All-contains_itself xs)) h, All-contains (λ y. p y ≡ true) (filter p xs) x (filter_passes p xs) h)
 
@@ -37,14 +37,14 @@ filter_keeps_at p (y ∷ xs) x (suc k) inside same passes =
     Contains-cond (p y) y (filter p xs) x (filter_keeps_at p xs x k (omega arith) same passes)
 
 -- what is in the list and passes is left by a filter
-filter_keeps : {X : Type 0} (p : X → Bool) (xs : List X) (x : X) → Contains xs x → p x ≡ true → Contains (filter p xs) x
+pub filter_keeps : {X : Type 0} (p : X → Bool) (xs : List X) (x : X) → Contains xs x → p x ≡ true → Contains (filter p xs) x
 filter_keeps p xs x h passes = filter_keeps_at p xs x h.0 h.1 h.2 passes
 
 -- the test of a list for a link tells whether it contains it
-holds_from_Contains : (links : List (LinkOf ℕ)) (link : LinkOf ℕ) → Contains links link → holds links link ≡ true
+pub holds_from_Contains : (links : List (LinkOf ℕ)) (link : LinkOf ℕ) → Contains links link → holds links link ≡ true
 holds_from_Contains links link h = list_any-from_Contains (eq_by_cmp_equiv (link_total nat_cmp nat_cmp_total)) link links h
 
-Contains-from_holds : (links : List (LinkOf ℕ)) (link : LinkOf ℕ) → holds links link ≡ true → Contains links link
+pub Contains-from_holds : (links : List (LinkOf ℕ)) (link : LinkOf ℕ) → holds links link ≡ true → Contains links link
 Contains-from_holds links link h = Contains-from_any (λ x y e. link_tie nat_cmp nat_tie x y ((Equal-is _).0 e)) link links h
 
 Contains-same : (xs ys : List (LinkOf ℕ)) → HoldTheSame xs ys → (link : LinkOf ℕ) → Contains xs link → Contains ys link

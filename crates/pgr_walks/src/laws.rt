@@ -1,7 +1,8 @@
 ghost use Rattle.std.specs.Prelude.{◌≡◌, ◌≢◌, ◌⊎◌, ◌↔◌, ℕ, ◌*◌, ◌<◌, ◌≤◌, List, Bool, true, Option, Some, None, Contains, slice_index_or};
 ghost use Rattle.pgr_walks.specs.declared.link.LinkOf.{LinkOf};
 ghost use Rattle.pgr_walks.specs.declared.label.Label.{Label};
-ghost use Rattle.pgr_walks.specs.Walk.{IsWalk, IsLooplessRoute, IsWithoutRepeats, vertices_of, hops_of};
+ghost use Rattle.pgr_walks.specs.Walk.{IsWalk, IsLooplessRoute, IsWithoutRepeats, vertices_of, cost_of, hops_of};
+ghost use Rattle.pgr_walks.specs.Reversed.{read_backwards};
 ghost use Rattle.pgr_walks.specs.Label.{IsLeastLabel, LeadsTo, HoldsLabels};
 ghost use Rattle.std.specs.Ordering.{nat_cmp};
 ghost use Rattle.pgr_walks.specs.RouteOrder.{IsLeast, Precedes};
@@ -117,6 +118,15 @@ pub fn one_walk_precedes_another<G: Graph>(g: &G)
         → IsWalk (LinksOf G.Graph g.now) s other u
         → walk ≢ other
         → Precedes nat_cmp walk other ⊎ Precedes nat_cmp other walk }
+{}
+
+/// A walk read backwards costs the same and has as many links, and read backwards again it is the walk.
+///
+/// A law; the call does nothing.
+pub fn backward_walks_cost_the_same()
+    ensures cost { (walk : List (LinkOf ℕ)) → cost_of (read_backwards walk) ≡ cost_of walk }
+    ensures hops { (walk : List (LinkOf ℕ)) → hops_of (read_backwards walk) ≡ hops_of walk }
+    ensures twice { (walk : List (LinkOf ℕ)) → read_backwards (read_backwards walk) ≡ walk }
 {}
 
 /// The targets of labels are the vertices with cost 0 and no hops.

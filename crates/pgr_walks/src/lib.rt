@@ -11,18 +11,22 @@ mod label;
 mod laws;
 mod link;
 mod list_graph;
+mod reversed;
 mod showing;
 mod visitor;
+mod without;
 
 pub use graph::Graph;
 pub use label::Label;
 pub use laws::{
-    closed_sets_have_a_least_walk, every_walk_can_be_loopless, least_labels_are_small,
-    loopless_walks_are_short, one_walk_between_ends_is_least, one_walk_of_a_set_is_least,
-    one_walk_precedes_another, one_walk_to_targets_is_least, small_costs_fit,
-    targets_have_labels_of_zero,
+    backward_walks_cost_the_same, closed_sets_have_a_least_walk, every_walk_can_be_loopless,
+    least_labels_are_small, loopless_walks_are_short, one_walk_between_ends_is_least,
+    one_walk_of_a_set_is_least, one_walk_precedes_another, one_walk_to_targets_is_least,
+    small_costs_fit, targets_have_labels_of_zero,
 };
 pub use link::{Link, LinkOf, NamedLink};
 pub use list_graph::ListGraph;
+pub use reversed::Reversed;
 pub use showing::show;
 pub use visitor::{LinkVisitor, Next};
+pub use without::Without;
