@@ -1,6 +1,7 @@
 pub mod Shows
 pub mod Rising
 pub mod Runs
+pub mod PartPlaces
 pub mod Repeats
 pub mod CycleRemoval
 pub mod SmallCosts

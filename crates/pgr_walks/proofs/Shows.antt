@@ -1,5 +1,5 @@
 -- Showing links one after another: what is left to show, and one step of it.
-use Rattle.std.proofs.Common.{◌≡◌, ℕ, ◌+◌, ◌<◌, ◌≤◌, List, [], ◌∷◌, length, get_or, drop, sym, subst, ◌∙◌}
+use Rattle.std.proofs.Common.{◌≡◌, ℕ, ◌+◌, ◌<◌, ◌≤◌, List, [], ◌∷◌, length, get_or, drop, sym, ap, subst, ◌∙◌}
 use Rattle.std.proofs.lemmas.List.{drop_more, drop_all}
 use Rattle.pgr_walks.specs.declared.link.LinkOf.{LinkOf}
 use Rattle.pgr_walks.specs.declared.visitor.Next.{Next}
@@ -34,6 +34,16 @@ module _ {M : Type 0} (after : M → LinkOf ℕ → M) (answer : M → LinkOf �
   pub go_at : (last now next : M) (links : List (LinkOf ℕ)) (i : ℕ) (d : LinkOf ℕ) → i < length links → IsLeft last now (drop i links) → answer now (get_or links i d) ≡ Go → next ≡ after now (get_or links i d) → IsLeft last next (drop (i + 1) links)
   go_at last now next links i d inside h go e =
       subst (λ m. IsLeft last m (drop (i + 1) links)) (sym e) (go_first last now _ _ (subst (IsLeft last now) (drop_more links i d inside) h) go)
+
+  -- the same of a link that stands at the place
+  pub ready_link : (last now : M) (links : List (LinkOf ℕ)) (i : ℕ) (link : LinkOf ℕ) → i < length links → get_or links i link ≡ link → IsLeft last now (drop i links) → ready now link
+  ready_link last now links i link inside same h = subst (ready now) same (ready_at last now links i link inside h)
+
+  pub stop_link : (last now next : M) (links : List (LinkOf ℕ)) (i : ℕ) (link : LinkOf ℕ) → i < length links → get_or links i link ≡ link → IsLeft last now (drop i links) → answer now link ≡ Stop → next ≡ after now link → next ≡ last
+  stop_link last now next links i link inside same h stop e = stop_at last now next links i link inside h (ap (answer now) same ∙ stop) (e ∙ ap (after now) (sym same))
+
+  pub go_link : (last now next : M) (links : List (LinkOf ℕ)) (i : ℕ) (link : LinkOf ℕ) → i < length links → get_or links i link ≡ link → IsLeft last now (drop i links) → answer now link ≡ Go → next ≡ after now link → IsLeft last next (drop (i + 1) links)
+  go_link last now next links i link inside same h go e = go_at last now next links i link inside h (ap (answer now) same ∙ go) (e ∙ ap (after now) (sym same))
 
   -- where none is left, the meaning now is the last
   pub none_left : (last now : M) (links : List (LinkOf ℕ)) (i : ℕ) → length links ≤ i → IsLeft last now (drop i links) → now ≡ last

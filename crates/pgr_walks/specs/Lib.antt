@@ -15,3 +15,6 @@ pub mod Reversed
 pub mod ReversedLaws
 pub mod Without
 pub mod WithoutLaws
+pub mod Arrival
+pub mod Parts
+pub mod RowGraphLaws

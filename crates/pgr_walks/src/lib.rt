@@ -6,12 +6,15 @@
 //! Not proved: time.
 #![tactic(auto)]
 
+mod arrival;
 mod graph;
 mod label;
 mod laws;
 mod link;
 mod list_graph;
+mod parts;
 mod reversed;
+mod row_graph;
 mod showing;
 mod visitor;
 mod without;
@@ -27,6 +30,7 @@ pub use laws::{
 pub use link::{Link, LinkOf, NamedLink};
 pub use list_graph::ListGraph;
 pub use reversed::Reversed;
+pub use row_graph::RowGraph;
 pub use showing::show;
 pub use visitor::{LinkVisitor, Next};
 pub use without::Without;
