@@ -1,7 +1,7 @@
 -- Lists of arrivals: the links that they keep, in order and by where they lead.
-use Rattle.std.proofs.Common.{◌≡◌, ℕ, ◌+◌, ◌<◌, ◌≤◌, Bool, true, false, cond, List, [], ◌∷◌, length, get_or, eqb, refl, sym, ap, subst, ◌∙◌, arith, map, Ordering}
+use Rattle.std.proofs.Common.{◌≡◌, ℕ, Bool, true, false, cond, List, [], ◌∷◌, eqb, refl, ap, subst, arith, map}
 use Rattle.std.specs.List.{filter}
-use Rattle.std.specs.List.Sorted.{IsSortedByKey, IsPermutation, IsNonDecreasingBy}
+use Rattle.std.specs.List.Sorted.{IsPermutation, IsNonDecreasingBy}
 use Rattle.std.proofs.lemmas.List.{length-map}
 use Rattle.std.proofs.lemmas.List.Sorted.{IsPermutation-map}
 use Rattle.std.proofs.Math.ListN.{get_or-map}

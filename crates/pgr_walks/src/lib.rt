@@ -1,8 +1,11 @@
 //! Walks over links: what a link, a walk, its cost and the order of routes are, and graphs that show their links.
 //!
 //! [`LinkOf`] is one direction of an edge, [`Label`] the cost and hops of a walk. A [`Graph`] shows the
-//! links out of a vertex and into it to a [`LinkVisitor`], which may stop it; [`ListGraph`] is the plainest.
-//! Proved: each graph keeps the laws of the trait, and shows a vertex's links in order up to the first stop.
+//! links out of a vertex and into it to a [`LinkVisitor`], which may stop it; [`ListGraph`] is the plainest, and
+//! [`RowGraph`] finds a vertex's links at once. [`Reversed`] is a graph with every link turned round, [`Without`]
+//! one without some links; neither takes memory.
+//! Proved: each graph keeps the laws of the trait, and shows a vertex's links in order up to the first stop; the
+//! walks of a view are those of its graph, read backwards or of links that are left, and it fits where its graph does.
 //! Not proved: time.
 #![tactic(auto)]
 
@@ -16,6 +19,8 @@ mod parts;
 mod reversed;
 mod row_graph;
 mod showing;
+#[cfg(test)]
+mod tests;
 mod visitor;
 mod without;
 

@@ -77,7 +77,7 @@ impl Graph for ListGraph {
     ghost lawful = { λ graph. list_lawful graph.size graph.by_start.items graph.by_end.items graph.ends_below graph.starts_rise graph.ends_rise graph.same };
 }
 
-// Of links that stand by where they begin, those that begin at `v`.
+/// Of links that stand by where they begin, those that begin at `v`.
 fn run_from(links: &[Link], v: u32) -> &[Link]
     requires { IsNonDecreasingBy (λ link. link.from) links.now }
     ensures { result.now ≡ links_from links.now v }
@@ -87,7 +87,7 @@ fn run_from(links: &[Link], v: u32) -> &[Link]
     run
 }
 
-// Of links that stand by where they lead, those that lead to `v`.
+/// Of links that stand by where they lead, those that lead to `v`.
 fn run_into(links: &[Link], v: u32) -> &[Link]
     requires { IsNonDecreasingBy (λ link. link.to) links.now }
     ensures { result.now ≡ links_into links.now v }
@@ -96,6 +96,3 @@ fn run_into(links: &[Link], v: u32) -> &[Link]
     let (run, _) = rest.split_at(rest.partition_point(|link| link.to <= v));
     run
 }
-
-#[cfg(test)]
-mod tests;

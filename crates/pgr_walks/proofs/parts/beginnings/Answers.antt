@@ -1,4 +1,4 @@
-use Rattle.std.proofs.Common.{◌≡◌, ℕ, ◌+◌, [], ◌∷◌, ◌++◌, arith, sym, subst}
+use Rattle.std.proofs.Common.{◌≡◌, ◌+◌, [], ◌∷◌, ◌++◌, arith, sym, subst}
 use Rattle.pgr_walks.proofs.PartPlaces.{ArePlacesBelow, no_places, more_places, all_places, first_beginning}
 use Rattle.pgr_walks.proofs.parts.beginnings.Goals as goal
 

@@ -1,4 +1,4 @@
-use Rattle.std.proofs.Common.{ℕ, ◌+◌, ◌-◌, length}
+use Rattle.std.proofs.Common.{◌+◌, ◌-◌, length}
 use Rattle.pgr_walks.proofs.PartPlaces.{HasPassed}
 use Rattle.pgr_walks.proofs.parts.end_of_part.Given as goal
 

@@ -1,14 +1,12 @@
 -- Sorted lists of the links rise strictly where no link stands twice, and so stand in parts.
-use Rattle.std.proofs.Common.{◌≡◌, ◌∙◌, ℕ, List, map, rules, ap, sym, subst}
+use Rattle.std.proofs.Common.{◌≡◌, ◌∙◌, ℕ, map, rules, ap, sym, subst}
 use Rattle.std.specs.Ordering.{nat_cmp}
-use Rattle.std.specs.List.Sorted.{IsPermutation, IsSorted, IsNonDecreasingBy}
+use Rattle.std.specs.List.Sorted.{IsPermutation, IsNonDecreasingBy}
 use Rattle.std.proofs.lemmas.Cmp.{nat_cmp_total}
 use Rattle.std.proofs.lemmas.List.Sorted.{All-permutation, answers_always}
 use Rattle.pgr_walks.specs.declared.link.LinkOf.{LinkOf}
 use Rattle.pgr_walks.specs.declared.arrival.Arrival.{Arrival}
-use Rattle.pgr_walks.specs.Link.{link_cmp}
-use Rattle.pgr_walks.specs.Graph.{IsStrictlyRising}
-use Rattle.pgr_walks.specs.ListGraph.{arrival_cmp, HasEndsBelow}
+use Rattle.pgr_walks.specs.ListGraph.{HasEndsBelow}
 use Rattle.pgr_walks.specs.Arrival.{arrival_of, link_of}
 use Rattle.pgr_walks.specs.Parts.{AreBeginnings}
 use Rattle.pgr_walks.specs.LinkOrders.{link_total, link_tie, nat_tie, arrival_total, arrival_tie}
