@@ -36,7 +36,13 @@ read_backwards-twice (link ∷ walk) =
 
 pub cost_of-read_backwards : {V : Type 0} (walk : List (LinkOf V)) → cost_of (read_backwards walk) ≡ cost_of walk
 cost_of-read_backwards [] = refl
-cost_of-read_backwards (link ∷ walk) = omega (arith, ap cost_of (read_backwards-cons link walk), cost_of-append (read_backwards walk) (turned link ∷ []), cost_of-read_backwards walk)
+cost_of-read_backwards (link ∷ walk) = omega (
+  arith,
+  ap cost_of (read_backwards-cons link walk),
+  cost_of-append (read_backwards walk) (turned link ∷ []),
+  cost_of-read_backwards
+      walk,
+)
 
 pub hops_of-read_backwards : {V : Type 0} (walk : List (LinkOf V)) → hops_of (read_backwards walk) ≡ hops_of walk
 hops_of-read_backwards walk = length-reverse (map turned walk) ∙ length-map walk turned
@@ -63,7 +69,8 @@ module _ {V : Type 0} (Has Turned : LinkOf V → Type 0) (turns : (link : LinkOf
   -- read backwards a walk leads the other way
   pub walk_back : (s t : V) (walk : List (LinkOf V)) → IsWalk Turned s walk t → IsWalk Has t (read_backwards walk) s
   walk_back s t [] w = sym w
-  walk_back s t (link ∷ walk) w = rw read_backwards-cons (walk-append Has t link.to s (read_backwards walk) (turned link ∷ []) (walk_back link.to t walk w.2) (turns link w.0, refl, w.1))
+  walk_back s t (link ∷ walk) w = rw read_backwards-cons (walk-append Has t link.to s (read_backwards walk) (turned link ∷ []) (walk_back link.to t walk w.2)
+      (turns link w.0, refl, w.1))
 
   -- and comes to the same vertices, the last first
   vertices_back : (s t : V) (walk : List (LinkOf V)) → IsWalk Turned s walk t → vertices_of t (read_backwards walk) ≡ reverse (vertices_of s walk)
@@ -71,7 +78,8 @@ module _ {V : Type 0} (Has Turned : LinkOf V → Type 0) (turns : (link : LinkOf
   vertices_back s t (link ∷ walk) w =
       let before = vertices_back link.to t walk w.2 in
       let last : link.from ∷ [] ≡ s ∷ [] = ap (λ v. v ∷ []) w.1 in
-      ap (vertices_of t) (read_backwards-cons link walk) ∙ (ap (λ vs. t ∷ vs) (map-append (λ (l : LinkOf V). l.to) (read_backwards walk) (turned link ∷ [])) ∙ (ap (λ vs. vs ++ (link.from ∷ [])) before ∙ (ap (λ vs. reverse (vertices_of link.to walk) ++ vs) last ∙ sym (reverse_onto (vertices_of link.to walk) s []))))
+      ap (vertices_of t) (read_backwards-cons link walk) ∙ (ap (λ vs. t ∷ vs) (map-append (λ (l : LinkOf V). l.to) (read_backwards walk) (turned link ∷ []))
+      ∙ (ap (λ vs. vs ++ (link.from ∷ [])) before ∙ (ap (λ vs. reverse (vertices_of link.to walk) ++ vs) last ∙ sym (reverse_onto (vertices_of link.to walk) s []))))
 
   pub route_back : (s t : V) (walk : List (LinkOf V)) → IsLooplessRoute Turned s walk t → IsLooplessRoute Has t (read_backwards walk) s
   route_back s t walk route = record {

@@ -21,7 +21,8 @@ record LooplessWithin {V : Type 0} (Has : LinkOf V → Type 0) (s t : V) (cost h
   hops_within : length other ≤ hops
 
 -- from where a walk without repeats comes to s on, it is such a walk from s
-cut : {V : Type 0} (Has : LinkOf V → Type 0) (s t a : V) (walk : List (LinkOf V)) → IsWalk Has a walk t → Among s (vertices_of a walk) → Apart (vertices_of a walk) → LooplessWithin Has s t (cost_of walk) (length walk)
+cut : {V : Type 0} (Has : LinkOf V → Type 0) (s t a : V) (walk : List (LinkOf V)) → IsWalk Has a walk t → Among s (vertices_of a walk) → Apart (vertices_of a walk)
+    → LooplessWithin Has s t (cost_of walk) (length walk)
 cut Has s t a walk w (inl e) p = record {
   other = walk;
   is_walk = subst (λ x. IsWalk Has x walk t) e w;
@@ -41,7 +42,8 @@ cut Has s t a (link ∷ links) w (inr h) p =
     }
 
 -- one link before such a walk: with no repeat, or cut where it comes back to s
-extend : {V : Type 0} (Has : LinkOf V → Type 0) (s t : V) (link : LinkOf V) (cost hops : ℕ) → Has link → link.from ≡ s → (rest : LooplessWithin Has link.to t cost hops) → Among s (vertices_of link.to rest.other) ⊎ (Among s (vertices_of link.to rest.other) → ⊥) → LooplessWithin Has s t (link.cost + cost) (suc hops)
+extend : {V : Type 0} (Has : LinkOf V → Type 0) (s t : V) (link : LinkOf V) (cost hops : ℕ) → Has link → link.from ≡ s → (rest : LooplessWithin Has link.to t cost hops)
+    → Among s (vertices_of link.to rest.other) ⊎ (Among s (vertices_of link.to rest.other) → ⊥) → LooplessWithin Has s t (link.cost + cost) (suc hops)
 extend Has s t link cost hops has from rest (inl again) =
     let less = cut Has s t link.to rest.other rest.is_walk again rest.apart in
     record {
@@ -59,7 +61,8 @@ extend Has s t link cost hops has from rest (inr new) = record {
   hops_within = omega (arith, rest.hops_within);
 }
 
-make_loopless : {V : Type 0} → ((x y : V) → (x ≡ y) ⊎ (x ≡ y → ⊥)) → (Has : LinkOf V → Type 0) (s t : V) (walk : List (LinkOf V)) → IsWalk Has s walk t → LooplessWithin Has s t (cost_of walk) (length walk)
+make_loopless : {V : Type 0} → ((x y : V) → (x ≡ y) ⊎ (x ≡ y → ⊥)) → (Has : LinkOf V → Type 0) (s t : V) (walk : List (LinkOf V)) → IsWalk Has s walk t
+    → LooplessWithin Has s t (cost_of walk) (length walk)
 make_loopless same Has s t [] w = record {
   other = [];
   is_walk = w;
@@ -72,7 +75,8 @@ make_loopless same Has s t (link ∷ links) w =
     extend Has s t link (cost_of links) (length links) w.0 w.1 rest (among_or_not same s (vertices_of link.to rest.other))
 
 -- every walk between vertices that can be told apart can be made loopless
-pub CanBeLoopless-from_walk : {V : Type 0} → ((x y : V) → (x ≡ y) ⊎ (x ≡ y → ⊥)) → (Has : LinkOf V → Type 0) (s t : V) (walk : List (LinkOf V)) → IsWalk Has s walk t → CanBeLoopless Has s walk t
+pub CanBeLoopless-from_walk : {V : Type 0} → ((x y : V) → (x ≡ y) ⊎ (x ≡ y → ⊥)) → (Has : LinkOf V → Type 0) (s t : V) (walk : List (LinkOf V)) → IsWalk Has s walk t
+    → CanBeLoopless Has s walk t
 CanBeLoopless-from_walk same Has s t walk w =
     let r = make_loopless same Has s t walk w in
     record {
@@ -84,15 +88,18 @@ CanBeLoopless-from_walk same Has s t walk w =
     }
 
 -- each vertex that a walk comes to is below the size
-vertices_below : (size : ℕ) (Has : LinkOf ℕ → Type 0) → ((link : LinkOf ℕ) → Has link → link.to < size) → (s t : ℕ) (walk : List (LinkOf ℕ)) → s < size → IsWalk Has s walk t → (q : ℕ) → list_any (eqb q) (vertices_of s walk) ≡ true → q < size
+vertices_below : (size : ℕ) (Has : LinkOf ℕ → Type 0) → ((link : LinkOf ℕ) → Has link → link.to < size) → (s t : ℕ) (walk : List (LinkOf ℕ)) → s < size → IsWalk Has s walk t
+    → (q : ℕ) → list_any (eqb q) (vertices_of s walk) ≡ true → q < size
 vertices_below size Has ends s t [] below w q h = ⊎_elim (λ (e : eqb q s ≡ true). omega (arith, eqb-true q s e)) (λ (e : false ≡ true). cc) (or_cases _ _ h)
 vertices_below size Has ends s t (link ∷ links) below w q h =
     ⊎_elim (λ (e : eqb q s ≡ true). omega (arith, eqb-true q s e)) (λ e. vertices_below size Has ends link.to t links (ends link w.0) w.2 q e) (or_cases _ _ h)
 
 -- a loopless walk comes to each vertex once at most, so it has fewer links than there are vertices
-pub loopless_is_short : (size : ℕ) (Has : LinkOf ℕ → Type 0) → ((link : LinkOf ℕ) → Has link → link.to < size) → (s t : ℕ) (walk : List (LinkOf ℕ)) → s < size → IsWalk Has s walk t → IsWithoutRepeats (vertices_of s walk) → hops_of walk < size
+pub loopless_is_short : (size : ℕ) (Has : LinkOf ℕ → Type 0) → ((link : LinkOf ℕ) → Has link → link.to < size) → (s t : ℕ) (walk : List (LinkOf ℕ)) → s < size
+    → IsWalk Has s walk t → IsWithoutRepeats (vertices_of s walk) → hops_of walk < size
 loopless_is_short size Has ends s t walk below w apart =
-    let few = length-le_from_distinct_below (vertices_of s walk) size (IsDistinct-from_Apart (vertices_of s walk) (Apart-from_IsWithoutRepeats (vertices_of s walk) apart)) (vertices_below size Has ends s t walk below w) in
+    let few = length-le_from_distinct_below (vertices_of s walk) size (IsDistinct-from_Apart (vertices_of s walk) (Apart-from_IsWithoutRepeats (vertices_of s walk) apart))
+    (vertices_below size Has ends s t walk below w) in
     simp length-map at few
 
 -- what is at most another costs at most as much
@@ -106,7 +113,8 @@ AtMost-hops a b (inl less) h = absurd (omega arith)
 AtMost-hops a b (inr same) h = same.1
 
 -- what costs no more than any walk costs no more than a loopless route, and nothing between equal ends
-least_cost : {V : Type 0} (Has : LinkOf V → Type 0) → Fits Has → (s t : V) (label : Label) (other : List (LinkOf V)) → IsWalk Has s other t → IsWithoutRepeats (vertices_of s other) → ((walk : List (LinkOf V)) → IsWalk Has s walk t → AtMost label (label_of walk)) → (s ≡ t) ⊎ (s ≡ t → ⊥) → label.cost ≤ greatest
+least_cost : {V : Type 0} (Has : LinkOf V → Type 0) → Fits Has → (s t : V) (label : Label) (other : List (LinkOf V)) → IsWalk Has s other t
+    → IsWithoutRepeats (vertices_of s other) → ((walk : List (LinkOf V)) → IsWalk Has s walk t → AtMost label (label_of walk)) → (s ≡ t) ⊎ (s ≡ t → ⊥) → label.cost ≤ greatest
 least_cost {V} Has fits s t label other w apart least (inl same) =
     let free = AtMost-cost label (label_of {V = V} []) (least [] same) in
     omega arith
@@ -115,11 +123,13 @@ least_cost Has fits s t label other w apart least (inr differ) =
     omega (arith, bound, AtMost-cost label (label_of other) (least other w))
 
 -- a least label is at most the label of a loopless walk
-pub least_is_small : (size : ℕ) (Has : LinkOf ℕ → Type 0) → ((link : LinkOf ℕ) → Has link → link.to < size) → Fits Has → (targets : List ℕ) (v : ℕ) (label : Label) → v < size → IsLeastLabel Has targets v label → (label.cost ≤ greatest) × (label.hops < size)
+pub least_is_small : (size : ℕ) (Has : LinkOf ℕ → Type 0) → ((link : LinkOf ℕ) → Has link → link.to < size) → Fits Has → (targets : List ℕ) (v : ℕ) (label : Label) → v < size
+    → IsLeastLabel Has targets v label → (label.cost ≤ greatest) × (label.hops < size)
 least_is_small size Has ends fits targets v label below m =
     let t = m.leads.target in
     let short = CanBeLoopless-from_walk cases_eq Has v t m.walk m.leads.is_walk in
-    let least : (walk : List (LinkOf ℕ)) → IsWalk Has v walk t → AtMost label (label_of walk) = λ walk w. m.least walk (record { target = t; is_target = m.leads.is_target; is_walk = w }) in
+    let least : (walk : List (LinkOf ℕ)) → IsWalk Has v walk t
+    → AtMost label (label_of walk) = λ walk w. m.least walk (record { target = t; is_target = m.leads.is_target; is_walk = w }) in
     let cost_is : cost_of m.walk ≡ label.cost = ap (λ (l : Label). l.cost) m.label_is in
     let few : hops_of short.other < size = loopless_is_short size Has ends v t short.other below short.is_walk short.loopless in
     let hops : label.hops ≤ hops_of short.other = AtMost-hops label (label_of short.other) (least short.other short.is_walk) (omega (arith, short.cost, cost_is)) in

@@ -48,7 +48,8 @@ walks_within : (ℕ → List (LinkOf ℕ)) → ℕ → ℕ → List (List (LinkO
 walks_within outs zero s = [] ∷ []
 walks_within outs (suc n) s = [] ∷ flat_map (λ link. map (λ rest. link ∷ rest) (walks_within outs n link.to)) (outs s)
 
-in_walks : (outs : ℕ → List (LinkOf ℕ)) (Has : LinkOf ℕ → Type 0) → ((link : LinkOf ℕ) → Has link → Contains (outs link.from) link) → (n s t : ℕ) (walk : List (LinkOf ℕ)) → IsWalk Has s walk t → length walk ≤ n → Among walk (walks_within outs n s)
+in_walks : (outs : ℕ → List (LinkOf ℕ)) (Has : LinkOf ℕ → Type 0) → ((link : LinkOf ℕ) → Has link → Contains (outs link.from) link) → (n s t : ℕ) (walk : List (LinkOf ℕ))
+    → IsWalk Has s walk t → length walk ≤ n → Among walk (walks_within outs n s)
 unfolding walks_within
 in_walks outs Has stands zero s t [] w few = inl refl
 in_walks outs Has stands zero s t (link ∷ rest) w few = absurd (omega arith)
@@ -85,7 +86,8 @@ one_not_after R total x y e = by (R x y) refl e
     by o f g = ap is_gt (total.antisymm y x) ∙ ap (λ p. is_gt (ordering_reverse p)) f ∙ turned o g
 
 -- one more element that doesn't pass the test
-first_skips : {X : Type 0} (R : X → X → Ordering) (test : X → Bool) (x : X) (xs : List X) → test x ≡ false → NonePass test xs ⊎ ((first : X) × IsFirstAmong R test xs first) → NonePass test (x ∷ xs) ⊎ ((first : X) × IsFirstAmong R test (x ∷ xs) first)
+first_skips : {X : Type 0} (R : X → X → Ordering) (test : X → Bool) (x : X) (xs : List X) → test x ≡ false → NonePass test xs ⊎ ((first : X) × IsFirstAmong R test xs first)
+    → NonePass test (x ∷ xs) ⊎ ((first : X) × IsFirstAmong R test (x ∷ xs) first)
 first_skips {X} R test x xs fails (inl none) = inl none_more
   where
     none_more : (y : X) → Among y (x ∷ xs) → test y ≡ true → ⊥
@@ -98,7 +100,8 @@ first_skips {X} R test x xs fails (inr some) = inr (some.0, record { passes = so
     more y (inr h) passes = some.1.not_after y h passes
 
 -- one more element that passes the test
-first_takes : {X : Type 0} (R : X → X → Ordering) → IsTotalOrder R → (test : X → Bool) (x : X) (xs : List X) → test x ≡ true → NonePass test xs ⊎ ((first : X) × IsFirstAmong R test xs first) → (first : X) × IsFirstAmong R test (x ∷ xs) first
+first_takes : {X : Type 0} (R : X → X → Ordering) → IsTotalOrder R → (test : X → Bool) (x : X) (xs : List X) → test x ≡ true
+    → NonePass test xs ⊎ ((first : X) × IsFirstAmong R test xs first) → (first : X) × IsFirstAmong R test (x ∷ xs) first
 first_takes {X} R total test x xs ok (inl none) = (x, record { passes = ok; not_after = alone })
   where
     alone : (y : X) → Among y (x ∷ xs) → test y ≡ true → NotAfter R x y
@@ -118,7 +121,8 @@ first_takes {X} R total test x xs ok (inr some) = by (is_gt (R some.0 x)) refl
         still y (inl f) passes = subst (NotAfter R some.0) f e
         still y (inr h) passes = some.1.not_after y h passes
 
-first_by : {X : Type 0} (R : X → X → Ordering) → IsTotalOrder R → (test : X → Bool) (x : X) (xs : List X) → (test x ≡ true) ⊎ (test x ≡ false) → NonePass test xs ⊎ ((first : X) × IsFirstAmong R test xs first) → NonePass test (x ∷ xs) ⊎ ((first : X) × IsFirstAmong R test (x ∷ xs) first)
+first_by : {X : Type 0} (R : X → X → Ordering) → IsTotalOrder R → (test : X → Bool) (x : X) (xs : List X) → (test x ≡ true) ⊎ (test x ≡ false)
+    → NonePass test xs ⊎ ((first : X) × IsFirstAmong R test xs first) → NonePass test (x ∷ xs) ⊎ ((first : X) × IsFirstAmong R test (x ∷ xs) first)
 first_by R total test x xs (inl passes) rest = inr (first_takes R total test x xs passes rest)
 first_by R total test x xs (inr fails) rest = first_skips R test x xs fails rest
 
@@ -149,9 +153,11 @@ walks_tie : (Has : LinkOf ℕ → Type 0) (s t u : ℕ) (a b : List (LinkOf ℕ)
 walks_tie Has s t u [] [] w x e = refl
 walks_tie Has s t u [] (b ∷ bs) w x e = cc
 walks_tie Has s t u (a ∷ as') [] w x e = cc
-walks_tie Has s t u (a ∷ as') (b ∷ bs) w x e = by (step_cmp nat_cmp a b) refl e (λ same rest. walks_tie Has a.to t u as' bs w.2 (subst (λ l. IsWalk Has l.to bs u) (sym same) x.2) rest)
+walks_tie Has s t u (a ∷ as') (b ∷ bs) w x e = by (step_cmp nat_cmp a b) refl e
+    (λ same rest. walks_tie Has a.to t u as' bs w.2 (subst (λ l. IsWalk Has l.to bs u) (sym same) x.2) rest)
   where
-    by : (o : Ordering) → step_cmp nat_cmp a b ≡ o → ordering_then o (slice_cmp (step_cmp nat_cmp) as' bs) ≡ Equal → (a ≡ b → slice_cmp (step_cmp nat_cmp) as' bs ≡ Equal → as' ≡ bs) → a ∷ as' ≡ b ∷ bs
+    by : (o : Ordering) → step_cmp nat_cmp a b ≡ o → ordering_then o (slice_cmp (step_cmp nat_cmp) as' bs) ≡ Equal
+        → (a ≡ b → slice_cmp (step_cmp nat_cmp) as' bs ≡ Equal → as' ≡ bs) → a ∷ as' ≡ b ∷ bs
     by Less f g rest = cc
     by Equal f g rest =
         let from : a.from ≡ b.from = w.1 ∙ sym x.1 in
@@ -169,7 +175,9 @@ last_equal Equal Equal q e = e
 last_equal Equal Greater q e = cc
 last_equal Greater p q e = cc
 
-module _ (size s t : ℕ) (outs : ℕ → List (LinkOf ℕ)) (Has : LinkOf ℕ → Type 0) (ends : (link : LinkOf ℕ) → Has link → link.to < size) (stands : (link : LinkOf ℕ) → Has link → Contains (outs link.from) link) (start : s < size) (test : List (LinkOf ℕ) → Bool) (walks : (walk : List (LinkOf ℕ)) → test walk ≡ true → IsWalk Has s walk t) (closed : IsClosedUnderCuts s (λ walk. test walk ≡ true)) where
+module _ (size s t : ℕ) (outs : ℕ → List (LinkOf ℕ)) (Has : LinkOf ℕ → Type 0) (ends : (link : LinkOf ℕ) → Has link → link.to < size)
+    (stands : (link : LinkOf ℕ) → Has link → Contains (outs link.from) link) (start : s < size) (test : List (LinkOf ℕ) → Bool)
+    (walks : (walk : List (LinkOf ℕ)) → test walk ≡ true → IsWalk Has s walk t) (closed : IsClosedUnderCuts s (λ walk. test walk ≡ true)) where
   -- a member that comes to no vertex twice, and not after a walk
   record IsLooplessBefore (walk other : List (LinkOf ℕ)) : Type 0 where
     passes : test other ≡ true
@@ -183,14 +191,32 @@ module _ (size s t : ℕ) (outs : ℕ → List (LinkOf ℕ)) (Has : LinkOf ℕ �
 
   -- a walk without the links between two visits doesn't come after it
   cut_not_after : (walk : List (LinkOf ℕ)) (i j : ℕ) → i < j → j ≤ length walk → NotAfter (route_cmp nat_cmp) (without_links i j walk) walk
-  cut_not_after walk i j below within = ap is_gt ((route_total nat_cmp nat_cmp_total).antisymm (without_links i j walk) walk) ∙ not_less_turned (route_cmp nat_cmp walk (without_links i j walk)) (comes_after nat_cmp walk (without_links i j walk) (cut_cost i j walk (omega arith)) (cut_hops i j walk below within))
+  cut_not_after walk i j below within = ap is_gt ((route_total nat_cmp nat_cmp_total).antisymm (without_links i j walk) walk) ∙ not_less_turned
+      (route_cmp nat_cmp walk (without_links i j walk)) (comes_after nat_cmp walk (without_links i j walk) (cut_cost i j walk (omega arith)) (cut_hops i j walk below within))
 
-  loopless_by : (walk : List (LinkOf ℕ)) → test walk ≡ true → Apart (vertices_of s walk) ⊎ HasRepeat (vertices_of s walk) → ((shorter : List (LinkOf ℕ)) → test shorter ≡ true → length shorter < length walk → (other : List (LinkOf ℕ)) × IsLooplessBefore shorter other) → (other : List (LinkOf ℕ)) × IsLooplessBefore walk other
-  loopless_by walk passes (inl apart) rest = (walk, record { passes = passes; loopless = IsWithoutRepeats-from_Apart (vertices_of s walk) apart; not_after = ap is_gt (tied_itself (route_total nat_cmp nat_cmp_total) walk) })
+  loopless_by : (walk : List (LinkOf ℕ)) → test walk ≡ true → Apart (vertices_of s walk) ⊎ HasRepeat (vertices_of s walk)
+      → ((shorter : List (LinkOf ℕ)) → test shorter ≡ true → length shorter < length walk → (other : List (LinkOf ℕ)) × IsLooplessBefore shorter other)
+      → (other : List (LinkOf ℕ)) × IsLooplessBefore walk other
+  loopless_by walk passes (inl apart) rest = (
+    walk,
+    record {
+      passes = passes;
+      loopless = IsWithoutRepeats-from_Apart (vertices_of s walk) apart;
+      not_after = ap is_gt
+          (tied_itself (route_total nat_cmp nat_cmp_total) walk);
+    },
+  )
   loopless_by walk passes (inr r) rest =
       let inside : r.late ≤ length walk = omega (arith, r.within, length-map walk (λ (link : LinkOf ℕ). link.to)) in
-      let found = rest (without_links r.early r.late walk) (closed walk r.early r.late passes r.below inside r.same) (cut_hops r.early r.late walk r.below inside) in
-      (found.0, record { passes = found.1.passes; loopless = found.1.loopless; not_after = upto (route_total nat_cmp nat_cmp_total) found.0 (without_links r.early r.late walk) walk found.1.not_after (cut_not_after walk r.early r.late r.below inside) })
+      let found = rest (without_links r.early r.late walk) (closed walk r.early r.late passes r.below inside r.same) (cut_hops r.early r.late walk r.below inside) in (
+        found.0,
+        record {
+          passes = found.1.passes;
+          loopless = found.1.loopless;
+          not_after = upto (route_total nat_cmp nat_cmp_total) found.0 (without_links r.early r.late walk)
+              walk found.1.not_after (cut_not_after walk r.early r.late r.below inside);
+        },
+      )
 
   -- each member comes after, or is, one that comes to no vertex twice
   loopless_before : (n : ℕ) (walk : List (LinkOf ℕ)) → length walk < n → test walk ≡ true → (other : List (LinkOf ℕ)) × IsLooplessBefore walk other
@@ -198,16 +224,20 @@ module _ (size s t : ℕ) (outs : ℕ → List (LinkOf ℕ)) (Has : LinkOf ℕ �
   loopless_before (suc n) walk few passes = loopless_by walk passes (repeat_or_not (vertices_of s walk)) (λ shorter ok fewer. loopless_before n shorter (omega (arith, fewer)) ok)
 
   -- the first of the members with few links comes after no member
-  not_after_any : (first walk : List (LinkOf ℕ)) → IsFirstAmong (route_cmp nat_cmp) test (walks_within outs size s) first → test walk ≡ true → NotAfter (route_cmp nat_cmp) first walk
+  not_after_any : (first walk : List (LinkOf ℕ)) → IsFirstAmong (route_cmp nat_cmp) test (walks_within outs size s) first → test walk ≡ true
+      → NotAfter (route_cmp nat_cmp) first walk
   not_after_any first walk is passes =
       let found = loopless_before (suc (length walk)) walk (omega arith) passes in
       let is_walk = walks found.0 found.1.passes in
       let few = loopless_is_short size Has ends s t found.0 start is_walk found.1.loopless in
-      upto (route_total nat_cmp nat_cmp_total) first found.0 walk (is.not_after found.0 (in_walks outs Has stands size s t found.0 is_walk (omega (arith, few))) found.1.passes) found.1.not_after
+      upto (route_total nat_cmp nat_cmp_total) first found.0 walk (is.not_after found.0 (in_walks outs Has stands size s t found.0 is_walk (omega (arith, few))) found.1.passes)
+      found.1.not_after
 
-  before_by : (first other : List (LinkOf ℕ)) (o : Ordering) → IsWalk Has s first t → IsWalk Has s other t → other ≢ first → route_cmp nat_cmp first other ≡ o → is_gt o ≡ false → o ≡ Less
+  before_by : (first other : List (LinkOf ℕ)) (o : Ordering) → IsWalk Has s first t → IsWalk Has s other t → other ≢ first → route_cmp nat_cmp first other ≡ o → is_gt o ≡ false
+      → o ≡ Less
   before_by first other Less w x ne e f = refl
-  before_by first other Equal w x ne e f = absurd (ne (sym (walks_tie Has s t t first other w x (last_equal (nat_cmp (cost_of first) (cost_of other)) (nat_cmp (hops_of first) (hops_of other)) (slice_cmp (step_cmp nat_cmp) first other) e))))
+  before_by first other Equal w x ne e f = absurd (ne (sym (walks_tie Has s t t first other w x
+      (last_equal (nat_cmp (cost_of first) (cost_of other)) (nat_cmp (hops_of first) (hops_of other)) (slice_cmp (step_cmp nat_cmp) first other) e))))
   before_by first other Greater w x ne e f = absurd (false≢true (sym f))
 
   -- so it is least
@@ -217,7 +247,9 @@ module _ (size s t : ℕ) (outs : ℕ → List (LinkOf ℕ)) (Has : LinkOf ℕ �
     precedes = λ other passes ne. before_by first other (route_cmp nat_cmp first other) (walks first is.passes) (walks other passes) ne refl (not_after_any first other is passes);
   }
 
-  least_by_first : (member : List (LinkOf ℕ)) → test member ≡ true → NonePass test (walks_within outs size s) ⊎ ((first : List (LinkOf ℕ)) × IsFirstAmong (route_cmp nat_cmp) test (walks_within outs size s) first) → (least : List (LinkOf ℕ)) × IsLeast nat_cmp (λ walk. test walk ≡ true) least × IsWithoutRepeats (vertices_of s least)
+  least_by_first : (member : List (LinkOf ℕ)) → test member ≡ true
+      → NonePass test (walks_within outs size s) ⊎ ((first : List (LinkOf ℕ)) × IsFirstAmong (route_cmp nat_cmp) test (walks_within outs size s) first)
+      → (least : List (LinkOf ℕ)) × IsLeast nat_cmp (λ walk. test walk ≡ true) least × IsWithoutRepeats (vertices_of s least)
   least_by_first member passes (inl none) =
       let found = loopless_before (suc (length member)) member (omega arith) passes in
       let is_walk = walks found.0 found.1.passes in
@@ -228,5 +260,6 @@ module _ (size s t : ℕ) (outs : ℕ → List (LinkOf ℕ)) (Has : LinkOf ℕ �
       (some.0, least, least_is_loopless nat_cmp s (λ walk. test walk ≡ true) some.0 closed least)
 
   -- a set with a member has a least one, which comes to no vertex twice
-  pub least_exists : (member : List (LinkOf ℕ)) → test member ≡ true → (least : List (LinkOf ℕ)) × IsLeast nat_cmp (λ walk. test walk ≡ true) least × IsWithoutRepeats (vertices_of s least)
+  pub least_exists : (member : List (LinkOf ℕ)) → test member ≡ true
+      → (least : List (LinkOf ℕ)) × IsLeast nat_cmp (λ walk. test walk ≡ true) least × IsWithoutRepeats (vertices_of s least)
   least_exists member passes = least_by_first member passes (first_among (route_cmp nat_cmp) (route_total nat_cmp nat_cmp_total) test (walks_within outs size s))

@@ -48,4 +48,5 @@ is_link_by_cmp a b = alike (is_link a b) (eq_by_cmp (link_cmp nat_cmp) b a) ther
         subst (λ x. is_link x b ≡ true) same (itself b)
       where
         itself : (x : LinkOf ℕ) → is_link x x ≡ true
-        itself x = rw (eq-eqb x.from x.from refl, eq-eqb x.cost x.cost refl, eq-eqb x.to x.to refl) (let edge : int_eq x.edge x.edge ≡ true = (Equal-is _).1 (tied_itself int_cmp_total x.edge) in rw edge refl)
+        itself x = rw (eq-eqb x.from x.from refl, eq-eqb x.cost x.cost refl, eq-eqb x.to x.to refl)
+            (let edge : int_eq x.edge x.edge ≡ true = (Equal-is _).1 (tied_itself int_cmp_total x.edge) in rw edge refl)

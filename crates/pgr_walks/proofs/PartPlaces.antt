@@ -32,7 +32,11 @@ module _ {X : Type 0} (vertex : X → ℕ) (xs : List X) where
   passed_start v place here = record { within = here.within; before = λ k d inside. omega (arith, here.before k d inside) }
 
   pub passed_one : (v place : ℕ) (item : X) → HasPassed v place → place < length xs → item ≡ get_or xs place item → vertex item < v → HasPassed v (place + 1)
-  passed_one v place item passed inside is below = record { within = omega arith; before = λ k d earlier. ⊎_elim (λ less. passed.before k d less) (λ more. at k d (omega arith)) (cases_lt k place) }
+  passed_one v place item passed inside is below = record {
+    within = omega arith;
+    before = λ k d earlier. ⊎_elim (λ less. passed.before k d less) (λ more. at k d (omega arith))
+        (cases_lt k place);
+  }
     where
       at : (k : ℕ) (d : X) → k ≡ place → vertex (get_or xs k d) < v
       at k d same =
@@ -44,7 +48,8 @@ module _ {X : Type 0} (vertex : X → ℕ) (xs : List X) where
   passed_all v place passed past = record { within = passed.within; before = passed.before; after = λ k d from inside. absurd (omega arith) }
 
   -- at an element of a vertex from v on
-  pub passed_part : (v place : ℕ) (item : X) → IsNonDecreasingBy vertex xs → HasPassed v place → place < length xs → item ≡ get_or xs place item → v ≤ vertex item → IsBeginning vertex xs v place
+  pub passed_part : (v place : ℕ) (item : X) → IsNonDecreasingBy vertex xs → HasPassed v place → place < length xs → item ≡ get_or xs place item → v ≤ vertex item
+      → IsBeginning vertex xs v place
   passed_part v place item sorted passed inside is from_v = record {
     within = passed.within;
     before = passed.before;
@@ -73,8 +78,10 @@ module _ {X : Type 0} (vertex : X → ℕ) (xs : List X) where
       let order = in_order v first last low high in
       let rest = length-drop first xs in
       run_is vertex xs v first (last - first)
-      (λ k d at_least inside. below_ltb _ v (low.before k d inside), λ k d from inside. above_ltb _ v (low.after k d from inside))
-      (λ k d at_least inside. subst (λ x. leb (vertex x) v ≡ true) (sym (get_or-drop first xs k d)) (below_leb _ v (high.before (first + k) d (omega arith))), λ k d from inside. subst (λ x. leb (vertex x) v ≡ false) (sym (get_or-drop first xs k d)) (above_leb _ v (high.after (first + k) d (omega arith) (omega arith))))
+      (λ k d at_least inside. below_ltb _ v (low.before k d inside), λ k d from inside. above_ltb _ v (low.after k d from inside)) (
+        λ k d at_least inside. subst (λ x. leb (vertex x) v ≡ true) (sym (get_or-drop first xs k d)) (below_leb _ v (high.before (first + k) d (omega arith))),
+        λ k d from inside. subst (λ x. leb (vertex x) v ≡ false) (sym (get_or-drop first xs k d)) (above_leb _ v (high.after (first + k) d (omega arith) (omega arith))),
+      )
       low.within
       (omega (arith, high.within))
 
@@ -91,7 +98,8 @@ module _ {X : Type 0} (vertex : X → ℕ) (xs : List X) where
     size_is = omega (arith, length-append places (place ∷ []), placed.size_is);
     at = λ u below. ⊎_elim
         (λ less. subst (IsBeginning vertex xs u) (sym (get_or_append_left places (place ∷ []) 0 u (omega (arith, placed.size_is)))) (placed.at u less))
-        (λ more. let same : u ≡ v = omega arith in subst (λ w. IsBeginning vertex xs w (get_or (places ++ place ∷ []) w 0)) (sym same) (subst (IsBeginning vertex xs v) (sym (last_place v place places placed.size_is)) here))
+        (λ more. let same : u ≡ v = omega arith in subst (λ w. IsBeginning vertex xs w (get_or (places ++ place ∷ []) w 0)) (sym same)
+        (subst (IsBeginning vertex xs v) (sym (last_place v place places placed.size_is)) here))
         (cases_lt u v);
   }
     where

@@ -17,7 +17,8 @@ pub filter-spared : (omissions : Omissions) (links : List (LinkOf ℕ)) → filt
 filter-spared omissions [] = refl
 filter-spared omissions (link ∷ links) = at (spares omissions link) (filter-spared omissions links)
   where
-    at : (b : Bool) → filter (spares omissions) links ≡ filter_map (spare omissions) links → cond b (link ∷ filter (spares omissions) links) (filter (spares omissions) links) ≡ cons_option (cond b (Some link) None) (filter_map (spare omissions) links)
+    at : (b : Bool) → filter (spares omissions) links ≡ filter_map (spare omissions) links
+        → cond b (link ∷ filter (spares omissions) links) (filter (spares omissions) links) ≡ cons_option (cond b (Some link) None) (filter_map (spare omissions) links)
     at true e = ap (λ rest. link ∷ rest) e
     at false e = e
 
@@ -37,7 +38,8 @@ from_parts false false true false f g h = refl
 from_parts false false false d f g h = refl
 
 -- the test tells whether the link is spared, where all taboo links leave the one vertex
-pub spares_is : (gone : List Bool) (first : ℕ) (taboo : List (LinkOf ℕ)) → All (λ link. link.from ≡ first) taboo → (link : LinkOf ℕ) → (spares (record { gone = gone; first = first; taboo = taboo }) link ≡ true) ↔ IsSpared gone taboo link
+pub spares_is : (gone : List Bool) (first : ℕ) (taboo : List (LinkOf ℕ)) → All (λ link. link.from ≡ first) taboo → (link : LinkOf ℕ)
+    → (spares (record { gone = gone; first = first; taboo = taboo }) link ≡ true) ↔ IsSpared gone taboo link
 spares_is gone first taboo leave link = (there, back)
   where
     there : spares (record { gone = gone; first = first; taboo = taboo }) link ≡ true → IsSpared gone taboo link
@@ -50,7 +52,8 @@ spares_is gone first taboo leave link = (there, back)
         }
 
     back : IsSpared gone taboo link → spares (record { gone = gone; first = first; taboo = taboo }) link ≡ true
-    back spared = from_parts (slice_index_or gone link.from false) (slice_index_or gone link.to false) (eqb link.from first) (holds taboo link) spared.from_stays spared.to_stays (λ from taken. spared.allowed (Contains-from_holds taboo link taken))
+    back spared = from_parts (slice_index_or gone link.from false) (slice_index_or gone link.to false) (eqb link.from first) (holds taboo link) spared.from_stays
+        spared.to_stays (λ from taken. spared.allowed (Contains-from_holds taboo link taken))
 
 module _ {V : Type 0} (Has Left : LinkOf V → Type 0) (among : (link : LinkOf V) → Left link → Has link) where
   -- a walk over some of the links is a walk over the links
@@ -79,7 +82,8 @@ module _ {V : Type 0} (Has Spared Left : LinkOf V → Type 0) (left_is : (link :
       over v (link ∷ rest) w all = ((left_is link).1 (w.0, All-head Spared link rest all), w.1, over link.to rest w.2 (All-tail Spared link rest all))
 
 -- the links that are left are those of the graph that are spared
-pub spared_links : (size : ℕ) (ins : ℕ → List (LinkOf ℕ)) (gone : List Bool) (first : ℕ) (taboo : List (LinkOf ℕ)) → All (λ link. link.from ≡ first) taboo → (link : LinkOf ℕ) → IsLinkOf size (λ v. filter (spares (record { gone = gone; first = first; taboo = taboo })) (ins v)) link ↔ (IsLinkOf size ins link × IsSpared gone taboo link)
+pub spared_links : (size : ℕ) (ins : ℕ → List (LinkOf ℕ)) (gone : List Bool) (first : ℕ) (taboo : List (LinkOf ℕ)) → All (λ link. link.from ≡ first) taboo → (link : LinkOf ℕ)
+    → IsLinkOf size (λ v. filter (spares (record { gone = gone; first = first; taboo = taboo })) (ins v)) link ↔ (IsLinkOf size ins link × IsSpared gone taboo link)
 spared_links size ins gone first taboo leave link =
     let left = filtered_links size ins (spares (record { gone = gone; first = first; taboo = taboo })) link in
     let test = spares_is gone first taboo leave link in

@@ -23,16 +23,19 @@ then_tie Greater p e = cc
 -- two links with the same parts are the same
 pub same_link : {V : Type 0} (a b : LinkOf V) → a.from ≡ b.from → a.edge ≡ b.edge → a.cost ≡ b.cost → a.to ≡ b.to → a ≡ b
 same_link a b from edge cost to =
-    ap (λ x. record a { from = x }) from ∙ (ap (λ x. record a { from = b.from; edge = x }) edge ∙ (ap (λ x. record b { cost = x; to = a.to }) cost ∙ ap (λ x. record b { to = x }) to))
+    ap (λ x. record a { from = x }) from ∙ (ap (λ x. record a { from = b.from; edge = x }) edge
+    ∙ (ap (λ x. record b { cost = x; to = a.to }) cost ∙ ap (λ x. record b { to = x }) to))
 
 module _ {V : Type 0} (vertex_cmp : V → V → Ordering) (total : IsTotalOrder vertex_cmp) where
   -- the order of links that begin at one vertex
   pub step_total : IsTotalOrder (step_cmp vertex_cmp)
-  step_total = then_total (on_total (λ (link : LinkOf V). link.edge) int_cmp_total) (then_total (on_total (λ (link : LinkOf V). link.cost) nat_cmp_total) (on_total (λ (link : LinkOf V). link.to) total))
+  step_total = then_total (on_total (λ (link : LinkOf V). link.edge) int_cmp_total)
+      (then_total (on_total (λ (link : LinkOf V). link.cost) nat_cmp_total) (on_total (λ (link : LinkOf V). link.to) total))
 
   -- the order of links that lead to one vertex
   pub entry_total : IsTotalOrder (entry_cmp vertex_cmp)
-  entry_total = then_total (on_total (λ (link : LinkOf V). link.edge) int_cmp_total) (then_total (on_total (λ (link : LinkOf V). link.cost) nat_cmp_total) (on_total (λ (link : LinkOf V). link.from) total))
+  entry_total = then_total (on_total (λ (link : LinkOf V). link.edge) int_cmp_total)
+      (then_total (on_total (λ (link : LinkOf V). link.cost) nat_cmp_total) (on_total (λ (link : LinkOf V). link.from) total))
 
   -- the order of all links
   pub link_total : IsTotalOrder (link_cmp vertex_cmp)

@@ -68,9 +68,11 @@ first_le x y Equal p e less = let h : x ≡ y = ranked x y Equal e in omega arit
 first_le x y Greater p e less = cc
 
 -- where a list rises by an order that compares a key first, the key does not fall
-non_decreasing_by_first : (key : LinkOf ℕ → ℕ) (next : LinkOf ℕ → LinkOf ℕ → Ordering) (links : List (LinkOf ℕ)) → IsStrictlyRising (λ a b. ordering_then (nat_cmp (key a) (key b)) (next a b)) links → IsNonDecreasingBy key links
+non_decreasing_by_first : (key : LinkOf ℕ → ℕ) (next : LinkOf ℕ → LinkOf ℕ → Ordering) (links : List (LinkOf ℕ))
+    → IsStrictlyRising (λ a b. ordering_then (nat_cmp (key a) (key b)) (next a b)) links → IsNonDecreasingBy key links
 non_decreasing_by_first key next links rise i j d ordered inside =
-    ⊎_elim (λ before. first_le _ _ _ _ refl (rise i j d before inside)) (λ after. let same : i ≡ j = omega arith in let e = ap (λ k. key (get_or links k d)) same in omega arith) (cases_lt i j)
+    ⊎_elim (λ before. first_le _ _ _ _ refl (rise i j d before inside))
+    (λ after. let same : i ≡ j = omega arith in let e = ap (λ k. key (get_or links k d)) same in omega arith) (cases_lt i j)
 
 pub starts_in_order : (links : List (LinkOf ℕ)) → IsStrictlyRising (link_cmp nat_cmp) links → IsNonDecreasingBy (λ link. link.from) links
 starts_in_order links rise = non_decreasing_by_first (λ link. link.from) (step_cmp nat_cmp) links rise
@@ -79,7 +81,8 @@ pub ends_in_order : (links : List (LinkOf ℕ)) → IsStrictlyRising arrival_cmp
 ends_in_order links rise = non_decreasing_by_first (λ link. link.to) (entry_cmp nat_cmp) links rise
 
 -- of links that rise by a key and then by another order, those with one key rise by the other order
-rest_rises : (key : LinkOf ℕ → ℕ) (next : LinkOf ℕ → LinkOf ℕ → Ordering) (links : List (LinkOf ℕ)) (v : ℕ) → IsStrictlyRising (λ a b. ordering_then (nat_cmp (key a) (key b)) (next a b)) links → IsStrictlyRising next (filter (λ link. eqb (key link) v) links)
+rest_rises : (key : LinkOf ℕ → ℕ) (next : LinkOf ℕ → LinkOf ℕ → Ordering) (links : List (LinkOf ℕ)) (v : ℕ)
+    → IsStrictlyRising (λ a b. ordering_then (nat_cmp (key a) (key b)) (next a b)) links → IsStrictlyRising next (filter (λ link. eqb (key link) v) links)
 rest_rises key next links v rise i j d before inside =
     let kept = filter (λ link. eqb (key link) v) links in
     let a = get_or kept i d in
@@ -87,9 +90,11 @@ rest_rises key next links v rise i j d before inside =
     let a_at : key a ≡ v = eqb-true (key a) v (filter_passes (λ link. eqb (key link) v) links i d (omega arith)) in
     let b_at : key b ≡ v = eqb-true (key b) v (filter_passes (λ link. eqb (key link) v) links j d inside) in
     let tied : nat_cmp (key a) (key b) ≡ Equal = rw (a_at, b_at) (tied_itself nat_cmp_total v) in
-    then_less (nat_cmp (key a) (key b)) (next a b) tied (AllPairs-filter (λ x y. ordering_then (nat_cmp (key x) (key y)) (next x y) ≡ Less) (λ link. eqb (key link) v) links rise i j d before inside)
+    then_less (nat_cmp (key a) (key b)) (next a b) tied (AllPairs-filter (λ x y. ordering_then (nat_cmp (key x) (key y)) (next x y) ≡ Less) (λ link. eqb (key link) v) links
+    rise i j d before inside)
 
-module _ (size : ℕ) (xs ys : List (LinkOf ℕ)) (ends_below : All (HasEndsBelow size) xs) (starts_rise : IsStrictlyRising (link_cmp nat_cmp) xs) (ends_rise : IsStrictlyRising arrival_cmp ys) (same : HoldTheSame xs ys) where
+module _ (size : ℕ) (xs ys : List (LinkOf ℕ)) (ends_below : All (HasEndsBelow size) xs) (starts_rise : IsStrictlyRising (link_cmp nat_cmp) xs)
+    (ends_rise : IsStrictlyRising arrival_cmp ys) (same : HoldTheSame xs ys) where
   out_facts : (v : ℕ) (link : LinkOf ℕ) → Contains (links_from xs v) link → (link.from ≡ v) × (link.to < size)
   out_facts v link h =
       let given = filter_gives (λ l. eqb l.from v) xs link h in
@@ -111,12 +116,19 @@ module _ (size : ℕ) (xs ys : List (LinkOf ℕ)) (ends_below : All (HasEndsBelo
   -- the laws
   pub list_lawful : IsLawful size (links_from xs) (links_into ys)
   list_lawful = record {
-    at = λ v below. record { out_ends = out_facts v; in_ends = in_facts v; outs_rise = rest_rises (λ l. l.from) (step_cmp nat_cmp) xs v starts_rise; ins_rise = rest_rises (λ l. l.to) (entry_cmp nat_cmp) ys v ends_rise };
+    at = λ v below. record {
+      out_ends = out_facts v;
+      in_ends = in_facts v;
+      outs_rise = rest_rises (λ l. l.from) (step_cmp nat_cmp) xs v starts_rise;
+      ins_rise = rest_rises
+          (λ l. l.to) (entry_cmp nat_cmp) ys v ends_rise;
+    };
     both = λ link from_below to_below. (in_from_out link, out_from_in link);
   }
 
 -- the links of the graph are those that were given
-pub links_exactly : (size : ℕ) (links ys : List (LinkOf ℕ)) → All (HasEndsBelow size) links → IsPermutation links ys → (link : LinkOf ℕ) → IsLinkOf size (links_into ys) link ↔ Contains links link
+pub links_exactly : (size : ℕ) (links ys : List (LinkOf ℕ)) → All (HasEndsBelow size) links → IsPermutation links ys → (link : LinkOf ℕ)
+    → IsLinkOf size (links_into ys) link ↔ Contains links link
 links_exactly size links ys ends_below moved link = (
   λ h. Contains-permutation ys links link (IsPermutation-sym links ys moved) (filter_gives (λ l. eqb l.to link.to) ys link h.1).0,
   λ h. ((All-contains (HasEndsBelow size) links link ends_below h).1, filter_keeps (λ l. eqb l.to link.to) ys link (Contains-permutation links ys link moved h) (eq-eqb _ _ refl)),

@@ -17,7 +17,8 @@ pub turned-Contains : (xs : List (LinkOf ℕ)) (link : LinkOf ℕ) → Contains 
 turned-Contains xs link h = (h.0, omega (arith, h.1, length-map xs (turned {V = ℕ})), get_or-map turned xs h.0 (turned link) ∙ ap turned h.2)
 
 -- turned links rise where the links do
-turned_rise : (cmp next : LinkOf ℕ → LinkOf ℕ → Ordering) → ((a b : LinkOf ℕ) → next (turned a) (turned b) ≡ cmp a b) → (xs : List (LinkOf ℕ)) → IsStrictlyRising cmp xs → IsStrictlyRising next (map turned xs)
+turned_rise : (cmp next : LinkOf ℕ → LinkOf ℕ → Ordering) → ((a b : LinkOf ℕ) → next (turned a) (turned b) ≡ cmp a b) → (xs : List (LinkOf ℕ)) → IsStrictlyRising cmp xs
+    → IsStrictlyRising next (map turned xs)
 turned_rise cmp next same xs rise i j d before inside =
     let a = get_or-map turned xs i (turned d) in
     let b = get_or-map turned xs j (turned d) in
@@ -35,8 +36,11 @@ module _ (size : ℕ) (outs ins : ℕ → List (LinkOf ℕ)) (law : IsLawful siz
       ins_rise = turned_rise (step_cmp nat_cmp) (entry_cmp nat_cmp) (λ a b. refl) (outs v) (law.at v below).outs_rise;
     };
     both = λ link from_below to_below.
-        let same = law.both (turned link) to_below from_below in
-        (λ h. turned-Contains (outs link.to) link (same.1 (Contains-turned (ins link.from) link h)), λ h. turned-Contains (ins link.from) link (same.0 (Contains-turned (outs link.to) link h)));
+        let same = law.both (turned link) to_below from_below in (
+          λ h. turned-Contains (outs link.to) link (same.1 (Contains-turned (ins link.from) link h)),
+          λ h. turned-Contains (ins link.from) link
+              (same.0 (Contains-turned (outs link.to) link h)),
+        );
   }
 
   -- its links are those of the graph, turned

@@ -20,10 +20,12 @@ without_links i j walk = take i walk ++ drop j walk
 
 -- a set of walks from s has each of its walks without the links between two visits of a vertex
 abbrev pub IsClosedUnderCuts : {V : Type 0} → V → (List (LinkOf V) → Type 0) → Type 0
-IsClosedUnderCuts s Belongs = (walk : List (LinkOf _)) (i j : ℕ) → Belongs walk → i < j → j ≤ length walk → slice_get (vertices_of s walk) i ≡ slice_get (vertices_of s walk) j → Belongs (without_links i j walk)
+IsClosedUnderCuts s Belongs = (walk : List (LinkOf _)) (i j : ℕ) → Belongs walk → i < j → j ≤ length walk → slice_get (vertices_of s walk) i ≡ slice_get (vertices_of s walk) j
+    → Belongs (without_links i j walk)
 
 -- lists of which each two elements compare as equal are the same
-tie_more : {X : Type 0} (o : Ordering) (x y : X) (xs ys : List X) (rest : Ordering) → ordering_then o rest ≡ Equal → (o ≡ Equal → x ≡ y) → (rest ≡ Equal → xs ≡ ys) → x ∷ xs ≡ y ∷ ys
+tie_more : {X : Type 0} (o : Ordering) (x y : X) (xs ys : List X) (rest : Ordering) → ordering_then o rest ≡ Equal → (o ≡ Equal → x ≡ y) → (rest ≡ Equal → xs ≡ ys)
+    → x ∷ xs ≡ y ∷ ys
 tie_more Less x y xs ys rest e first others = cc
 tie_more Equal x y xs ys rest e first others = let a = first refl in let b = others e in λ i. a i ∷ b i
 tie_more Greater x y xs ys rest e first others = cc
@@ -48,7 +50,8 @@ module _ {V : Type 0} (vertex_cmp : V → V → Ordering) (total : IsTotalOrder 
 
 module _ {V : Type 0} (vertex_cmp : V → V → Ordering) (total : IsTotalOrder vertex_cmp) (tie : (x y : V) → vertex_cmp x y ≡ Equal → x ≡ y) where
   -- two least members are the same, by how they compare link by link
-  least_by : (Belongs : List (LinkOf V) → Type 0) (a b : List (LinkOf V)) (o : Ordering) → IsLeast vertex_cmp Belongs a → IsLeast vertex_cmp Belongs b → slice_cmp (link_cmp vertex_cmp) a b ≡ o → (o ≡ Equal) ⊎ (o ≢ Equal) → a ≡ b
+  least_by : (Belongs : List (LinkOf V) → Type 0) (a b : List (LinkOf V)) (o : Ordering) → IsLeast vertex_cmp Belongs a → IsLeast vertex_cmp Belongs b
+      → slice_cmp (link_cmp vertex_cmp) a b ≡ o → (o ≡ Equal) ⊎ (o ≢ Equal) → a ≡ b
   least_by Belongs a b o least other e (inl same) = list_tie (link_cmp vertex_cmp) (link_tie vertex_cmp tie) a b (e ∙ same)
   least_by Belongs a b o least other e (inr differ) =
       let apart : a ≢ b = λ same. differ (sym e ∙ ap (slice_cmp (link_cmp vertex_cmp) a) (sym same) ∙ tied_itself (lists_total (link_total vertex_cmp total)) a) in
@@ -83,7 +86,8 @@ module _ {V : Type 0} (vertex_cmp : V → V → Ordering) (total : IsTotalOrder 
       λ i. same i ∷ rest i
 
   -- of two different walks from one vertex one precedes the other
-  pub one_precedes : (s t u : V) (walk other : List (LinkOf V)) → IsWalk Has s walk t → IsWalk Has s other u → walk ≢ other → (route_cmp vertex_cmp walk other ≡ Less) ⊎ (route_cmp vertex_cmp other walk ≡ Less)
+  pub one_precedes : (s t u : V) (walk other : List (LinkOf V)) → IsWalk Has s walk t → IsWalk Has s other u → walk ≢ other
+      → (route_cmp vertex_cmp walk other ≡ Less) ⊎ (route_cmp vertex_cmp other walk ≡ Less)
   one_precedes s t u walk other w v differ = by (route_cmp vertex_cmp walk other) refl
     where
       by : (o : Ordering) → route_cmp vertex_cmp walk other ≡ o → (route_cmp vertex_cmp walk other ≡ Less) ⊎ (route_cmp vertex_cmp other walk ≡ Less)
@@ -125,7 +129,8 @@ greater_not_less : Greater ≡ Less → ⊥
 greater_not_less e = cc
 
 -- a walk that costs no less than another and has more links comes after it
-pub comes_after : {V : Type 0} (vertex_cmp : V → V → Ordering) (walk other : List (LinkOf V)) → cost_of other ≤ cost_of walk → length other < length walk → route_cmp vertex_cmp walk other ≡ Less → ⊥
+pub comes_after : {V : Type 0} (vertex_cmp : V → V → Ordering) (walk other : List (LinkOf V)) → cost_of other ≤ cost_of walk → length other < length walk
+    → route_cmp vertex_cmp walk other ≡ Less → ⊥
 comes_after vertex_cmp walk other cost hops e = by (nat_cmp (cost_of walk) (cost_of other)) (not_less (cost_of walk) (cost_of other) cost) e
   where
     by : (o : Ordering) → o ≢ Less → ordering_then o (ordering_then (nat_cmp (hops_of walk) (hops_of other)) (slice_cmp (step_cmp vertex_cmp) walk other)) ≡ Less → ⊥
@@ -134,7 +139,8 @@ comes_after vertex_cmp walk other cost hops e = by (nat_cmp (cost_of walk) (cost
     by Greater differs f = greater_not_less f
 
 -- a least walk of a set from which cycles can be taken out comes to no vertex twice
-pub least_is_loopless : {V : Type 0} (vertex_cmp : V → V → Ordering) (s : V) (Belongs : List (LinkOf V) → Type 0) (walk : List (LinkOf V)) → IsClosedUnderCuts s Belongs → IsLeast vertex_cmp Belongs walk → IsWithoutRepeats (vertices_of s walk)
+pub least_is_loopless : {V : Type 0} (vertex_cmp : V → V → Ordering) (s : V) (Belongs : List (LinkOf V) → Type 0) (walk : List (LinkOf V)) → IsClosedUnderCuts s Belongs
+    → IsLeast vertex_cmp Belongs walk → IsWithoutRepeats (vertices_of s walk)
 least_is_loopless vertex_cmp s Belongs walk closed least i j below within same =
     let inside : j ≤ length walk = omega (arith, length-map walk (λ (link : LinkOf _). link.to)) in
     let fewer = cut_hops i j walk below inside in
@@ -142,13 +148,15 @@ least_is_loopless vertex_cmp s Belongs walk closed least i j below within same =
     (least.precedes (without_links i j walk) (closed walk i j least.belongs below inside same) (λ e. absurd (omega (arith, fewer, ap length e))))
 
 -- what is left of a walk from a place on is a walk from the vertex there
-walk_from : {V : Type 0} (Has : LinkOf V → Type 0) (s t v : V) (j : ℕ) (walk : List (LinkOf V)) → IsWalk Has s walk t → slice_get (vertices_of s walk) j ≡ Some v → IsWalk Has v (drop j walk) t
+walk_from : {V : Type 0} (Has : LinkOf V → Type 0) (s t v : V) (j : ℕ) (walk : List (LinkOf V)) → IsWalk Has s walk t → slice_get (vertices_of s walk) j ≡ Some v
+    → IsWalk Has v (drop j walk) t
 walk_from Has s t v zero walk w e = subst (λ x. IsWalk Has x walk t) (same_Some s v e) w
 walk_from Has s t v (suc j) [] w e = cc
 walk_from Has s t v (suc j) (link ∷ rest) w e = walk_from Has link.to t v j rest w.2 e
 
 -- a walk without the links between two visits of a vertex is a walk between the same ends
-pub walk_cut : {V : Type 0} (Has : LinkOf V → Type 0) (s t : V) (walk : List (LinkOf V)) (i j : ℕ) → IsWalk Has s walk t → i < j → j ≤ length walk → slice_get (vertices_of s walk) i ≡ slice_get (vertices_of s walk) j → IsWalk Has s (without_links i j walk) t
+pub walk_cut : {V : Type 0} (Has : LinkOf V → Type 0) (s t : V) (walk : List (LinkOf V)) (i j : ℕ) → IsWalk Has s walk t → i < j → j ≤ length walk
+    → slice_get (vertices_of s walk) i ≡ slice_get (vertices_of s walk) j → IsWalk Has s (without_links i j walk) t
 walk_cut Has s t walk zero j w below within same = walk_from Has s t s j walk w (sym same)
 walk_cut Has s t walk (suc i) zero w below within same = absurd (omega arith)
 walk_cut Has s t [] (suc i) (suc j) w below within same = absurd (omega arith)

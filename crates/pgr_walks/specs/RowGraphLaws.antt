@@ -26,7 +26,9 @@ pub map-filter_to : (arrivals : List Arrival) (v : ℕ) → map link_of (filter 
 map-filter_to [] v = refl
 map-filter_to (arrival ∷ arrivals) v = at (eqb arrival.to v) (map-filter_to arrivals v)
   where
-    at : (b : Bool) → map link_of (filter (λ a. eqb a.to v) arrivals) ≡ links_into (map link_of arrivals) v → map link_of (cond b (arrival ∷ filter (λ a. eqb a.to v) arrivals) (filter (λ a. eqb a.to v) arrivals)) ≡ cond b (link_of arrival ∷ links_into (map link_of arrivals) v) (links_into (map link_of arrivals) v)
+    at : (b : Bool) → map link_of (filter (λ a. eqb a.to v) arrivals) ≡ links_into (map link_of arrivals) v
+        → map link_of (cond b (arrival ∷ filter (λ a. eqb a.to v) arrivals) (filter (λ a. eqb a.to v) arrivals)) ≡ cond b
+        (link_of arrival ∷ links_into (map link_of arrivals) v) (links_into (map link_of arrivals) v)
     at true e = ap (λ rest. link_of arrival ∷ rest) e
     at false e = e
 

@@ -21,7 +21,8 @@ pub record Omissions : Type 0 where
 
 -- whether the link is spared: only a link that leaves the one vertex is looked for among the taboo links
 abbrev pub spares : Omissions → LinkOf ℕ → Bool
-spares omissions link = not (slice_index_or omissions.gone link.from false) && (not (slice_index_or omissions.gone link.to false) && not ((link.from == omissions.first) && holds omissions.taboo link))
+spares omissions link = not (slice_index_or omissions.gone link.from false) &&
+    (not (slice_index_or omissions.gone link.to false) && not ((link.from == omissions.first) && holds omissions.taboo link))
 
 -- what a visitor that leaves those links out makes of each
 abbrev pub spare : Omissions → LinkOf ℕ → Option (LinkOf ℕ)

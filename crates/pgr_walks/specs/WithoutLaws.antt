@@ -20,12 +20,16 @@ module _ (size : ℕ) (outs ins : ℕ → List (LinkOf ℕ)) (law : IsLawful siz
       ins_rise = λ i j d before inside. AllPairs-filter (λ x y. entry_cmp nat_cmp x y ≡ Less) keeps (ins v) (law.at v below).ins_rise i j d before inside;
     };
     both = λ link from_below to_below.
-        let same = law.both link from_below to_below in
-        (λ h. let given = filter_gives keeps (outs link.from) link h in filter_keeps keeps (ins link.to) link (same.0 given.0) given.1, λ h. let given = filter_gives keeps (ins link.to) link h in filter_keeps keeps (outs link.from) link (same.1 given.0) given.1);
+        let same = law.both link from_below to_below in (
+          λ h. let given = filter_gives keeps (outs link.from) link h in filter_keeps keeps (ins link.to) link (same.0 given.0) given.1,
+          λ h. let given = filter_gives keeps
+              (ins link.to) link h in filter_keeps keeps (outs link.from) link (same.1 given.0) given.1,
+        );
   }
 
 -- its links are those of the graph that are kept
-pub filtered_links : (size : ℕ) (ins : ℕ → List (LinkOf ℕ)) (keeps : LinkOf ℕ → Bool) (link : LinkOf ℕ) → IsLinkOf size (λ v. filter keeps (ins v)) link ↔ (IsLinkOf size ins link × (keeps link ≡ true))
+pub filtered_links : (size : ℕ) (ins : ℕ → List (LinkOf ℕ)) (keeps : LinkOf ℕ → Bool) (link : LinkOf ℕ)
+    → IsLinkOf size (λ v. filter keeps (ins v)) link ↔ (IsLinkOf size ins link × (keeps link ≡ true))
 filtered_links size ins keeps link = (
   λ h. let given = filter_gives keeps (ins link.to) link h.1 in ((h.0, given.0), given.1),
   λ h. (h.0.0, filter_keeps keeps (ins link.to) link h.0.1 h.1),

@@ -80,7 +80,8 @@ impl<G: Graph> Graph for Without<'_, G> {
 
     ghost use Rattle.pgr_walks.specs.WithoutLaws.{filtered_lawful};
 
-    ghost lawful = { λ without. filtered_lawful (G.count without.graph.now) (G.outs without.graph.now) (G.ins without.graph.now) (G.lawful without.graph.now) (spares (record { gone = without.gone.now; first = without.first; taboo = without.taboo.now })) };
+    ghost lawful = { λ without. filtered_lawful (G.count without.graph.now) (G.outs without.graph.now) (G.ins without.graph.now)
+        (G.lawful without.graph.now) (spares (record { gone = without.gone.now; first = without.first; taboo = without.taboo.now })) };
 }
 
 /// Shows another visitor those of the links that it is shown which are spared.

@@ -7,7 +7,8 @@ use Rattle.pgr_walks.specs.RouteOrders.{least_is_one, least_is_loopless, walk_cu
 use Rattle.pgr_walks.proofs.laws.one_walk_to_targets_is_least.Goals as goal
 
 pub returns-clause-one : goal.returns-clause-one
-returns-clause-one g c = λ targets v walk other least also. least_is_one nat_cmp nat_cmp_total nat_tie (LeadsTo (IsLinkOf (g.G.Graph.count c.args.g.now) (g.G.Graph.ins c.args.g.now)) targets v) walk other least also
+returns-clause-one g c = λ targets v walk other least also. least_is_one nat_cmp nat_cmp_total nat_tie
+    (LeadsTo (IsLinkOf (g.G.Graph.count c.args.g.now) (g.G.Graph.ins c.args.g.now)) targets v) walk other least also
 
 pub returns-clause-loopless : goal.returns-clause-loopless
 returns-clause-loopless g c = λ targets v walk least.

@@ -13,7 +13,8 @@ loop-v-preserved g c =
     let vertex = g.T.InPart.vertex in
     let known = c.loop-v.invariant in
     record {
-      placed = subst (ArePlacesBelow vertex c.args.items.now (c.loop-v.v + 1)) (sym c.in_ok-push.ensures.items) (more_places vertex c.args.items.now c.loop-v.v c.loop-v.place c.loop-v.places.items known.placed known.here);
+      placed = subst (ArePlacesBelow vertex c.args.items.now (c.loop-v.v + 1)) (sym c.in_ok-push.ensures.items)
+          (more_places vertex c.args.items.now c.loop-v.v c.loop-v.place c.loop-v.places.items known.placed known.here);
       here = c.end_of_part-place.ensures;
     }
 
@@ -24,4 +25,5 @@ returns g c =
     let end : c.loop-v.v ≡ c.args.size = omega arith in
     let placed = more_places vertex c.args.items.now c.loop-v.v c.loop-v.place c.loop-v.places.items known.placed known.here in
     all_places vertex c.args.items.now c.args.size _
-    (subst (ArePlacesBelow vertex c.args.items.now (c.args.size + 1)) (sym c.in_ok-push-2.ensures.items) (subst (λ n. ArePlacesBelow vertex c.args.items.now (n + 1) (c.loop-v.places.items ++ c.loop-v.place ∷ [])) end placed))
+    (subst (ArePlacesBelow vertex c.args.items.now (c.args.size + 1)) (sym c.in_ok-push-2.ensures.items)
+    (subst (λ n. ArePlacesBelow vertex c.args.items.now (n + 1) (c.loop-v.places.items ++ c.loop-v.place ∷ [])) end placed))

@@ -19,7 +19,8 @@ invariant_of-result c =
     let copied : c.in_ok-by_start.by_start.items ≡ links = search rules in
     let to_start : IsPermutation links by_start = rw copied at c.sort_unstable.ensures.permutation in
     let to_end : IsPermutation links by_end = c.sort_unstable_by_key.ensures.permutation in
-    let end_sorted : IsSorted arrival_cmp by_end = sorted_by_end by_end (c.sort_unstable_by_key.ensures.sorted (λ (link : LinkOf ℕ). (link.to, link.edge, link.cost, link.from)) (answers_always _ _ _ (λ f a r g h. search rules))) in
+    let end_sorted : IsSorted arrival_cmp by_end = sorted_by_end by_end
+    (c.sort_unstable_by_key.ensures.sorted (λ (link : LinkOf ℕ). (link.to, link.edge, link.cost, link.from)) (answers_always _ _ _ (λ f a r g h. search rules))) in
     record {
       ends_below = All-permutation (HasEndsBelow c.args.size) links by_start to_start c.requires.ends;
       starts_rise = rising_from_permutation (link_total nat_cmp nat_cmp_total) (link_tie nat_cmp nat_tie) links by_start c.requires.once to_start c.sort_unstable.ensures.sorted;

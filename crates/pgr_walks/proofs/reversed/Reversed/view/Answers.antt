@@ -14,16 +14,19 @@ pub returns-clause-fits : goal.returns-clause-fits
 returns-clause-fits g c =
     let graph = c.args.graph.now in
     let size = g.G.Graph.count graph in
-    Fits-turned (IsLinkOf size (g.G.Graph.ins graph)) (IsLinkOf size (λ v. map turned (g.G.Graph.outs graph v))) (λ link. (reversed_links size (g.G.Graph.outs graph) (g.G.Graph.ins graph) (g.met.G.Graph.lawful graph) link).0)
+    Fits-turned (IsLinkOf size (g.G.Graph.ins graph)) (IsLinkOf size (λ v. map turned (g.G.Graph.outs graph v)))
+    (λ link. (reversed_links size (g.G.Graph.outs graph) (g.G.Graph.ins graph) (g.met.G.Graph.lawful graph) link).0)
 
 pub returns-clause-walks : goal.returns-clause-walks
 returns-clause-walks g c =
     let graph = c.args.graph.now in
     let size = g.G.Graph.count graph in
-    walks_back (IsLinkOf size (g.G.Graph.ins graph)) (IsLinkOf size (λ v. map turned (g.G.Graph.outs graph v))) (reversed_links size (g.G.Graph.outs graph) (g.G.Graph.ins graph) (g.met.G.Graph.lawful graph))
+    walks_back (IsLinkOf size (g.G.Graph.ins graph)) (IsLinkOf size (λ v. map turned (g.G.Graph.outs graph v)))
+    (reversed_links size (g.G.Graph.outs graph) (g.G.Graph.ins graph) (g.met.G.Graph.lawful graph))
 
 pub returns-clause-labels : goal.returns-clause-labels
 returns-clause-labels g c =
     let graph = c.args.graph.now in
     let size = g.G.Graph.count graph in
-    labels_back (IsLinkOf size (g.G.Graph.ins graph)) (IsLinkOf size (λ v. map turned (g.G.Graph.outs graph v))) (reversed_links size (g.G.Graph.outs graph) (g.G.Graph.ins graph) (g.met.G.Graph.lawful graph))
+    labels_back (IsLinkOf size (g.G.Graph.ins graph)) (IsLinkOf size (λ v. map turned (g.G.Graph.outs graph v)))
+    (reversed_links size (g.G.Graph.outs graph) (g.G.Graph.ins graph) (g.met.G.Graph.lawful graph))

@@ -19,7 +19,8 @@ pub beginnings-requires : goal.beginnings-requires
 beginnings-requires c =
     let links = c.args.links.items in
     let by_start = c.sort_unstable.new.self.items in
-    let rise = rising_from_permutation (link_total nat_cmp nat_cmp_total) (link_tie nat_cmp nat_tie) links by_start c.requires.once c.sort_unstable.ensures.permutation c.sort_unstable.ensures.sorted in
+    let rise = rising_from_permutation (link_total nat_cmp nat_cmp_total) (link_tie nat_cmp nat_tie) links by_start c.requires.once c.sort_unstable.ensures.permutation
+    c.sort_unstable.ensures.sorted in
     subst (IsNonDecreasingBy (λ (link : LinkOf ℕ). link.from)) (sym c.deref-2.ensures.value) (starts_in_order by_start rise)
 
 pub beginnings-requires-2 : goal.beginnings-requires-2
@@ -28,7 +29,8 @@ beginnings-requires-2 c =
     let by_end = c.sort_unstable_by_key.new.self.items in
     let kept : c.in_ok-by_end.by_end.items ≡ map arrival_of links = c.in_ok-by_end.ensures ∙ ap (map arrival_of) c.deref.ensures.value in
     let arrived = subst (λ xs. IsPermutation xs by_end) kept c.sort_unstable_by_key.ensures.permutation in
-    let end_sorted = sorted_arrivals by_end (c.sort_unstable_by_key.ensures.sorted (λ (a : Arrival). (a.to, a.edge, a.cost, a.from)) (answers_always _ _ _ (λ f a r g h. search rules))) in
+    let end_sorted = sorted_arrivals by_end (c.sort_unstable_by_key.ensures.sorted (λ (a : Arrival). (a.to, a.edge, a.cost, a.from))
+    (answers_always _ _ _ (λ f a r g h. search rules))) in
     let rise = rising_from_permutation arrival_total arrival_tie links (map link_of by_end) c.requires.once (permuted_kept links by_end arrived) end_sorted in
     subst (IsNonDecreasingBy (λ (arrival : Arrival). arrival.to)) (sym c.deref-3.ensures.value) (arrivals_in_order by_end rise)
 
@@ -41,7 +43,8 @@ invariant_of-result c =
     let arrived = subst (λ xs. IsPermutation xs by_end) kept c.sort_unstable_by_key.ensures.permutation in
     let to_start = c.sort_unstable.ensures.permutation in
     let to_end = permuted_kept links by_end arrived in
-    let end_sorted = sorted_arrivals by_end (c.sort_unstable_by_key.ensures.sorted (λ (a : Arrival). (a.to, a.edge, a.cost, a.from)) (answers_always _ _ _ (λ f a r g h. search rules))) in
+    let end_sorted = sorted_arrivals by_end (c.sort_unstable_by_key.ensures.sorted (λ (a : Arrival). (a.to, a.edge, a.cost, a.from))
+    (answers_always _ _ _ (λ f a r g h. search rules))) in
     record {
       ends_below = All-permutation (HasEndsBelow c.args.size) links by_start to_start c.requires.ends;
       starts_rise = rising_from_permutation (link_total nat_cmp nat_cmp_total) (link_tie nat_cmp nat_tie) links by_start c.requires.once to_start c.sort_unstable.ensures.sorted;

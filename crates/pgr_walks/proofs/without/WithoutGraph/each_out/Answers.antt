@@ -9,7 +9,8 @@ each_out-requires-clause-ready g c =
     let V = g.V.LinkVisitor in
     let without = c.args.self.now in
     let omissions : Omissions = record { gone = without.gone.now; first = without.first; taboo = without.taboo.now } in
-    admits_through spare V.after V.answer V.ready (record { reference = _; by = omissions; inner = V.meaning c.args.visitor.now }) _ _ (filter-spared omissions (g.G.Graph.outs without.graph.now c.args.v)) c.requires.ready
+    admits_through spare V.after V.answer V.ready (record { reference = _; by = omissions; inner = V.meaning c.args.visitor.now }) _ _
+    (filter-spared omissions (g.G.Graph.outs without.graph.now c.args.v)) c.requires.ready
 
 pub returns : goal.returns
 returns g c =
