@@ -1,6 +1,9 @@
-pub mod Shown
+pub mod KeyOrder
+pub mod Listing
+pub mod Matches
 pub mod LabelOrder
-pub mod Progress
-pub mod Round
+pub mod LabelSetting
+pub mod Relaxed
+pub mod Running
+pub mod Shown
 pub mod Starting
-pub mod Scan

@@ -1,4 +1,7 @@
+pub mod FinalLabels
 pub mod Relaxing
-pub mod Nearest
+pub mod Settled
 pub mod Start
+pub mod Tournament
+pub mod Turn
 pub mod ThreeVertices

@@ -1,17 +1,22 @@
 //! Least labels: for each vertex the least cost, and then the fewest links, over all walks from it to a target.
 //!
-//! [`Room`] takes all memory of a search at once, [`labels_to`] fills it over any graph that fits and
-//! [`Room::label`] reads it.
+//! [`Room`] takes all memory of a search at once and may be used for many, [`labels_to`] fills it over any
+//! graph that fits, [`labels_until`] does so up to a [`Bound`], and [`Room::label`] reads it.
 //! Proved: a vertex has a label exactly where a walk leads from it to a target, and its label is that of
-//! such a walk and at most that of every other. Not proved: time.
+//! such a walk and at most that of every other. Up to a bound each label is the least of its vertex too, no
+//! label that is left out is less than one that is held, the wanted vertices have theirs, and within a limit
+//! stand exactly the vertices of no greater cost. Not proved: time.
 #![tactic(auto)]
 
-mod nearest;
+mod bound;
 mod relaxing;
 mod room;
 mod search;
+mod settled;
 #[cfg(test)]
 mod three_vertices;
+mod tournament;
 
+pub use bound::Bound;
 pub use room::Room;
-pub use search::labels_to;
+pub use search::{labels_to, labels_until};

@@ -1,13 +1,14 @@
-ghost use Rattle.std.specs.Prelude.{◌≡◌};
-ghost use Rattle.pgr_search.specs.Relaxing as relaxing;
-
+use crate::settled::Settled;
+use crate::tournament::Tournament;
 use pgr_walks::{Label, Link, LinkVisitor, Next};
 
-/// Relaxes the links that it is shown: those into a vertex of this label.
+/// Relaxes the links that it is shown: those into a vertex of this label, which is settled.
 #[derive(Drop)]
 pub struct Relaxing<'a> {
-    /// The labels of all vertices.
-    pub labels: &'a mut [Option<Label>],
+    /// The labels of settled vertices.
+    pub settled: &'a Settled,
+    /// The labels of waiting vertices.
+    pub waiting: &'a mut Tournament<Label>,
     /// The label of the vertex that the links lead to.
     pub label: Label,
 }
@@ -19,8 +20,9 @@ impl LinkVisitor for Relaxing<'_> {
     ghost Meaning = { Relaxation };
 
     ghost meaning = { λ relaxing. record {
-      reference = relaxing.labels.ghost_name;
-      labels = relaxing.labels.now;
+      reference = relaxing.waiting.ghost_name;
+      settled = relaxing.settled.now;
+      waiting = relaxing.waiting.now;
       label = relaxing.label;
     } };
 
@@ -31,22 +33,13 @@ impl LinkVisitor for Relaxing<'_> {
     ghost ready = { IsReady };
 
     fn see(&mut self, link: Link) -> Next {
-        let from = link.from as usize;
         let label = Label {
             cost: self.label.cost + link.cost,
             hops: self.label.hops + 1,
         };
-        self.labels[from] = Some(lesser(self.labels[from], label));
+        if self.settled.label(link.from).is_none() {
+            self.waiting.lower(link.from, label);
+        }
         Next::Go
-    }
-}
-
-/// The lesser of the label that a vertex has, if any, and another.
-fn lesser(old: Option<Label>, label: Label) -> Label
-    ensures { result ≡ relaxing.lesser old label }
-{
-    match old {
-        None => label,
-        Some(old) => { if label < old { label } else { old } }
     }
 }

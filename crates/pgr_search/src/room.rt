@@ -1,5 +1,7 @@
 ghost use Rattle.std.specs.Prelude.{◌≡◌, ◌<◌, None, All, IsNone, IfOk, length, slice_index_or};
 
+use crate::settled::Settled;
+use crate::tournament::Tournament;
 use pgr_outside::NoMemory;
 use pgr_walks::Label;
 use std::alloc::Global;
@@ -8,19 +10,19 @@ use std::marker::Model;
 /// Room for the labels of a search, one place for each vertex number.
 #[derive(Drop)]
 pub struct Room {
-    pub(crate) labels: Vec<Option<Label>>,
-    pub(crate) settled: Vec<bool>,
+    pub(crate) settled: Settled,
+    pub(crate) waiting: Tournament<Label>,
 }
 
 impl Model for Room {
-    ghost use Rattle.std.specs.Prelude.{◌≡◌, ◌<◌, ◌^◌, List, Option, vec_len};
+    ghost use Rattle.std.specs.Prelude.{◌≡◌, ◌<◌, ◌^◌, All, IsNone, List, Option, length};
     ghost use Rattle.pgr_walks.specs.declared.label.Label.{Label};
 
     ghost Value = { List (Option Label) };
 
-    ghost view = { λ room. room.labels.items };
+    ghost view = { λ room. room.settled };
 
-    ghost invariant = { λ room. (vec_len room.settled ≡ vec_len room.labels) × (vec_len room.labels < 2 ^ 32) };
+    ghost invariant = { λ room. (length room.waiting ≡ length room.settled) × (length room.settled < 2 ^ 32) × All IsNone room.waiting };
 }
 
 impl Room {
@@ -31,9 +33,9 @@ impl Room {
         ensures size { IfOk result (λ room. length room ≡ n) }
         ensures empty { IfOk result (All IsNone) }
     {
-        let labels = vec![in alloc; None; n as usize].map_err(|_| NoMemory)?;
-        let settled = vec![in alloc; false; n as usize].map_err(|_| NoMemory)?;
-        Ok(Room { labels, settled })
+        let settled = Settled::for_size(alloc, n)?;
+        let waiting = Tournament::for_size(alloc, n)?;
+        Ok(Room { settled, waiting })
     }
 
     /// The label of a vertex, if it has one.
@@ -43,6 +45,6 @@ impl Room {
         requires { v < length self.now }
         ensures { result ≡ slice_index_or self.now v None }
     {
-        self.labels[v as usize]
+        self.settled.label(v)
     }
 }
