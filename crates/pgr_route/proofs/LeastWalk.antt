@@ -12,23 +12,12 @@ use Rattle.pgr_walks.specs.Link.{step_cmp}
 use Rattle.pgr_walks.specs.LinkOrders.{nat_tie, link_tie, step_total}
 use Rattle.pgr_walks.specs.Walk.{IsWalk, cost_of, hops_of}
 use Rattle.pgr_walks.specs.RouteOrder.{route_cmp, IsLeast}
-use Rattle.pgr_walks.specs.Label.{label_of, beyond, AtMost, LeadsTo, IsLeastLabel, IsLabel, HoldsLabels}
+use Rattle.pgr_walks.specs.Label.{label_of, AtMost, LeadsTo, IsLabel}
 use Rattle.pgr_walks.specs.Graph.{IsLawful, IsLinkOf}
 use Rattle.pgr_route.specs.Least.{LeadsNowhere}
-use Rattle.pgr_route.specs.Tight.{label_at, IsTight}
+use Rattle.pgr_search.specs.FinalLabels.{label_at, HoldsFinalLabels}
+use Rattle.pgr_search.specs.Tight.{IsTight, BeginsTight}
 use Rattle.pgr_route.proofs.TightWalks.{IsBest, label_same, label_before, best_is_link, best_label, walk_wider}
-
--- two labels that are at most each other are the same
-at_most_both : (a b : Label) → AtMost a b → AtMost b a → a ≡ b
-at_most_both a b (inl h) (inl k) = absurd (omega arith)
-at_most_both a b (inl h) (inr k) = absurd (omega (arith, k.0))
-at_most_both a b (inr h) (inl k) = absurd (omega (arith, h.0))
-at_most_both a b (inr h) (inr k) = label_same a b h.0 (omega (arith, h.1, k.1))
-
--- what holds of two walks that begin with one link holds of what is left of them
-at_most_rest : (link : LinkOf ℕ) (a b : List (LinkOf ℕ)) → AtMost (label_of (link ∷ a)) (label_of (link ∷ b)) → AtMost (label_of a) (label_of b)
-at_most_rest link a b (inl h) = inl (omega arith)
-at_most_rest link a b (inr h) = inr (omega (arith, h.0), omega (arith, h.1))
 
 -- how numbers compare
 nat_less : (x y : ℕ) → x < y → nat_cmp x y ≡ Less
@@ -44,48 +33,27 @@ step_equal a b from e = link_tie nat_cmp nat_tie a b (ap (λ o. ordering_then o 
 step_itself : (a : LinkOf ℕ) → step_cmp nat_cmp a a ≡ Equal
 step_itself = tied_itself (step_total nat_cmp nat_cmp_total)
 
-module _ (size : ℕ) (outs ins : ℕ → List (LinkOf ℕ)) (labels : List (Option Label)) (lawful : IsLawful size outs ins) (targets : List ℕ) (holds : HoldsLabels size (IsLinkOf size ins) targets labels) where
+module _ (size : ℕ) (outs ins : ℕ → List (LinkOf ℕ)) (labels : List (Option Label)) (lawful : IsLawful size outs ins) (targets : List ℕ) (holds : HoldsFinalLabels size (IsLinkOf size ins) targets labels) (first : BeginsTight (IsLinkOf size ins) targets labels) where
   starts_in : (link : LinkOf ℕ) → IsLinkOf size ins link → link.from < size
   starts_in link has = ((lawful.at link.to has.0).in_ends link has.1).1
 
-  -- what a vertex's label says
-  least_label : (v : ℕ) (label : Label) → v < size → label_at labels v ≡ Some label → IsLeastLabel (IsLinkOf size ins) targets v label
-  least_label v label h e = subst (IsLabel (IsLinkOf size ins) targets v) e (holds.label v h)
-
-  -- a walk to a target that has the label of its vertex goes on, after its first link, with a walk that has the label of its own
-  rest_label : (link : LinkOf ℕ) (rest : List (LinkOf ℕ)) (t : ℕ) (there : Option Label) → IsLinkOf size ins link → IsWalk (IsLinkOf size ins) link.to rest t → Contains targets t → label_at labels link.from ≡ Some (label_of (link ∷ rest)) → label_at labels link.to ≡ there → there ≡ Some (label_of rest)
-  rest_label link rest t None has w target e f = absurd (subst (IsLabel (IsLinkOf size ins) targets link.to) f (holds.label link.to has.0) rest (record { target = t; is_target = target; is_walk = w }))
-  rest_label link rest t (Some label) has w target e f =
-      let there = least_label link.to label has.0 f in
-      let here = least_label link.from (label_of (link ∷ rest)) (starts_in link has) e in
-      let below : AtMost label (label_of rest) = there.least rest (record { target = t; is_target = target; is_walk = w }) in
-      let longer : LeadsTo (IsLinkOf size ins) targets link.from (link ∷ there.walk) = record { target = there.leads.target; is_target = there.leads.is_target; is_walk = (has, refl, there.leads.is_walk) } in
-      let above : AtMost (label_of rest) (label_of there.walk) = at_most_rest link rest there.walk (here.least (link ∷ there.walk) longer) in
-      ap Some (at_most_both label (label_of rest) below (subst (AtMost (label_of rest)) there.label_is above))
-
-  -- so its first link is tight
-  first_tight : (link : LinkOf ℕ) (rest : List (LinkOf ℕ)) (t : ℕ) → IsLinkOf size ins link → IsWalk (IsLinkOf size ins) link.to rest t → Contains targets t → label_at labels link.from ≡ Some (label_of (link ∷ rest)) → IsTight labels link
-  first_tight link rest t has w target e = record {
-    here = label_of (link ∷ rest);
-    there = label_of rest;
-    here_is = e;
-    there_is = rest_label link rest t (label_at labels link.to) has w target e refl;
-    one_more = label_same (label_of (link ∷ rest)) (beyond (label_of rest) link) (omega arith) (omega arith);
-  }
+  -- a walk to a target that has the label of its vertex begins with a tight link and goes on with a walk that has the label of its own
+  goes_on : (link : LinkOf ℕ) (rest : List (LinkOf ℕ)) (t : ℕ) → IsLinkOf size ins link → IsWalk (IsLinkOf size ins) link.to rest t → Contains targets t → label_at labels link.from ≡ Some (label_of (link ∷ rest)) → IsTight labels link × (label_at labels link.to ≡ Some (label_of rest))
+  goes_on link rest t has w target e = first link.from link rest e (record { target = t; is_target = target; is_walk = (has, refl, w) })
 
   -- of two walks from one vertex that have its label, the best one comes first, or they are the same: by how their first links compare
   compare_first : (a b : LinkOf ℕ) (r q : List (LinkOf ℕ)) (t : ℕ) (o : Ordering) → IsBest size outs labels a → a.from ≡ b.from → IsLinkOf size ins b → IsWalk (IsLinkOf size ins) b.to q t → Contains targets t → label_at labels b.from ≡ Some (label_of (b ∷ q)) → (IsWalk (IsLinkOf size ins) a.to q t → label_at labels a.to ≡ Some (label_of q) → (q ≡ r) ⊎ (slice_cmp (step_cmp nat_cmp) r q ≡ Less)) → step_cmp nat_cmp a b ≡ o → (b ∷ q ≡ a ∷ r) ⊎ (ordering_then o (slice_cmp (step_cmp nat_cmp) r q) ≡ Less)
   compare_first a b r q t Less best from has w target e rest same = inr refl
   compare_first a b r q t Equal best from has w target e rest same =
       let link : b ≡ a = sym (step_equal a b from same) in
-      let label : label_at labels b.to ≡ Some (label_of q) = rest_label b q t (label_at labels b.to) has w target e refl in
+      let label : label_at labels b.to ≡ Some (label_of q) = (goes_on b q t has w target e).1 in
       by link (rest (subst (λ x. IsWalk (IsLinkOf size ins) x.to q t) link w) (ap (λ x. label_at labels x.to) (sym link) ∙ label))
     where
       by : b ≡ a → (q ≡ r) ⊎ (slice_cmp (step_cmp nat_cmp) r q ≡ Less) → (b ∷ q ≡ a ∷ r) ⊎ (slice_cmp (step_cmp nat_cmp) r q ≡ Less)
       by link (inl walk) = inl (λ i. link i ∷ walk i)
       by link (inr less) = inr less
   compare_first a b r q t Greater best from has w target e rest same =
-      let tight = first_tight b q t has w target e in
+      let tight = (goes_on b q t has w target e).0 in
       let among : Contains (outs a.from) b = subst (λ v. Contains (outs v) b) (sym from) ((lawful.both b (starts_in b has) has.0).1 has.1) in
       let other : b ≢ a = λ link. absurd (no_greater (sym (step_itself a) ∙ ap (step_cmp nat_cmp a) (sym link) ∙ same)) in
       absurd (no_less (sym (best.least.least b among tight other) ∙ same))
@@ -126,22 +94,22 @@ module _ (size : ℕ) (outs ins : ℕ → List (LinkOf ℕ)) (labels : List (Opt
       let from : link.from ≡ v = leads.is_walk.1 in
       let here : label_at labels link.from ≡ Some (label_of (link ∷ rest)) = ap (label_at labels) from ∙ e ∙ ap Some (sym is) in
       let has = leads.is_walk.0 in
-      absurd (none link (subst (λ x. Contains (outs x) link) from ((lawful.both link (starts_in link has) has.0).1 has.1)) (first_tight link rest leads.target has leads.is_walk.2 leads.is_target here))
+      absurd (none link (subst (λ x. Contains (outs x) link) from ((lawful.both link (starts_in link has) has.0).1 has.1)) (goes_on link rest leads.target has leads.is_walk.2 leads.is_target here).0)
 
   -- a best walk to a labelled vertex out of which no link is tight is least of all walks from its vertex to a target
-  pub best_is_least : (route : List (LinkOf ℕ)) (v end : ℕ) (last : Label) → v < size → end < size → IsWalk (IsBest size outs labels) v route end → label_at labels end ≡ Some last → ((link : LinkOf ℕ) → Contains (outs end) link → IsTight labels link → ⊥) → IsLeast nat_cmp (LeadsTo (IsLinkOf size ins) targets v) route
-  best_is_least route v end last v_in end_in best e none =
-      let ends = least_label end last end_in e in
+  pub best_is_least : (route : List (LinkOf ℕ)) (v end : ℕ) (last : Label) → IsWalk (IsBest size outs labels) v route end → label_at labels end ≡ Some last → ((link : LinkOf ℕ) → Contains (outs end) link → IsTight labels link → ⊥) → IsLeast nat_cmp (LeadsTo (IsLinkOf size ins) targets v) route
+  best_is_least route v end last best e none =
+      let ends = holds.least end last e in
       let finish = at_end end last ends.walk e ends.leads ends.label_is none in
       let label : label_at labels v ≡ Some (label_of route) = best_label size outs ins labels lawful route v end (label_of {V = ℕ} []) best finish.1 ∙ ap Some (label_same (label_before route (label_of {V = ℕ} [])) (label_of route) (add-zero (cost_of route)) (add-zero (hops_of route))) in
       record {
         belongs = record { target = end; is_target = finish.0; is_walk = walk_wider (IsBest size outs labels) (IsLinkOf size ins) (best_is_link size outs ins labels lawful) v route end best };
-        precedes = λ other leads ne. precedes_other route other v end leads.target best label leads.is_walk leads.is_target ne ((least_label v (label_of route) v_in label).least other leads);
+        precedes = λ other leads ne. precedes_other route other v end leads.target best label leads.is_walk leads.is_target ne ((holds.least v (label_of route) label).least other leads);
       }
 
 -- no walk leads to a target from a vertex without a label
-pub no_label_nowhere : (size : ℕ) (Has : LinkOf ℕ → Type 0) (labels : List (Option Label)) (v : ℕ) → v < size → label_at labels v ≡ None → LeadsNowhere size Has labels v
-no_label_nowhere size Has labels v within none targets holds = subst (IsLabel Has targets v) none (holds.label v within)
+pub no_label_nowhere : (size : ℕ) (Has : LinkOf ℕ → Type 0) (labels : List (Option Label)) (v : ℕ) → label_at labels v ≡ None → LeadsNowhere size Has labels v
+no_label_nowhere size Has labels v none targets holds = subst (IsLabel Has targets v) none holds.label
 
 -- a label that is there
 pub label_there : (o : Option Label) → IsSome o → (label : Label) × (o ≡ Some label)

@@ -8,7 +8,7 @@ use Rattle.pgr_walks.specs.declared.label.Label.{Label}
 use Rattle.pgr_walks.specs.Label.{beyond}
 use Rattle.pgr_walks.specs.Walk.{IsWalk, cost_of, hops_of, vertices_of, IsLooplessRoute}
 use Rattle.pgr_walks.specs.Graph.{IsLawful, IsLinkOf, Fits, greatest}
-use Rattle.pgr_route.specs.Tight.{label_at, IsTight, IsLeastTight}
+use Rattle.pgr_search.specs.Tight.{label_at, IsTight, IsLeastTight}
 
 -- a walk and one more link from where it ends
 pub walk_push : {V : Type 0} (Has : LinkOf V → Type 0) (s : V) (walk : List (LinkOf V)) (v : V) (link : LinkOf V) → IsWalk Has s walk v → Has link → link.from ≡ v → IsWalk Has s (walk ++ link ∷ []) link.to

@@ -1,5 +1,3 @@
 pub mod Steps
 pub mod Chain
-pub mod Tight
-pub mod Seeking
 pub mod Least

@@ -10,7 +10,6 @@ mod growth;
 mod least;
 mod route;
 mod step;
-mod tight;
 
 pub use least::least_route;
 pub use route::Route;

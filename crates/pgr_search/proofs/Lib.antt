@@ -7,3 +7,6 @@ pub mod Relaxed
 pub mod Running
 pub mod Shown
 pub mod Starting
+pub mod SeekingLemmas
+pub mod TightLinks
+pub mod ThreeVerticesFit

@@ -1,6 +1,6 @@
 -- The matches of a tournament: which are held after a key has changed and one more match was held, and that the winner of all has the least key.
 use Rattle.std.proofs.Common.{◌≡◌, ℕ, zero, suc, ◌+◌, ◌*◌, ◌/◌, ◌<◌, ◌≤◌, ◌-◌, ◌⊎◌, inl, inr, cond, false, List, Option, Some, None, IsNone, All, length, get_or, set, replicate, refl, sym, ap, ◌∙◌, subst, arith, Ordering}
-use Rattle.std.proofs.lemmas.Bool.{cases_eq, cases_lt, true≢false}
+use Rattle.std.proofs.lemmas.Bool.{cases_eq, cases_lt, cases_order, true≢false}
 use Rattle.std.proofs.lemmas.Option.{none-some}
 use Rattle.std.proofs.lemmas.List.{get_or-set_same, get_or-set_other, length-set, length-replicate, get_or_past, get_or_default}
 use Rattle.std.proofs.lemmas.List.{get_or-replicate}
@@ -62,6 +62,37 @@ none_above k p h one (i, e) =
 up-half : (i p : ℕ) → up i p / 2 ≡ up i (p / 2)
 up-half zero p = refl
 up-half (suc i) p = up-half i (p / 2)
+
+-- fewer places are above a place than its number says
+up-le : (i p : ℕ) → up i p ≤ p
+up-le zero p = omega arith
+up-le (suc i) p = omega (arith, up-le i (p / 2))
+
+-- so many places up and then some more
+up-add : (i j p : ℕ) → up (i + j) p ≡ up j (up i p)
+up-add zero j p = let none : zero + j ≡ j = omega arith in ap (λ n. up n p) none
+up-add (suc i) j p = ap (λ n. up n p) (suc_more i j) ∙ up-add i j (p / 2)
+  where
+    suc_more : (i j : ℕ) → suc i + j ≡ suc (i + j)
+    suc_more i j = omega arith
+
+-- a place above another is at most its half
+above-le : (p k : ℕ) → IsAbove p k → k ≤ p / 2
+above-le p k (i, e) = omega (arith, e, up-le i (p / 2))
+
+-- two places above one place, whose halves are the same, are the same
+same_above : (m a b i j : ℕ) → a ≡ up i m → b ≡ up j m → a / 2 ≡ b / 2 → 1 ≤ a / 2 → a ≡ b
+same_above m a b i j ea eb half one = by (cases_order i j)
+  where
+    later : (c d k n : ℕ) → c ≡ up k m → d ≡ up (k + suc n) m → c / 2 ≡ d / 2 → 1 ≤ c / 2 → ⊥
+    later c d k n ec ed same some =
+        let d_is : d ≡ up n (c / 2) = ed ∙ up-add k (suc n) m ∙ ap (λ x. up n (x / 2)) (sym ec) in
+        omega (arith, d_is, up-le n (c / 2))
+
+    by : (i ≡ j) ⊎ ((i < j) ⊎ (j < i)) → a ≡ b
+    by (inl same) = ea ∙ ap (λ n. up n m) same ∙ sym eb
+    by (inr (inl less)) = let n : i + suc (j - suc i) ≡ j = omega arith in absurd (later a b i (j - suc i) ea (eb ∙ ap (λ n. up n m) (sym n)) half one)
+    by (inr (inr less)) = let n : j + suc (i - suc j) ≡ i = omega arith in absurd (later b a j (i - suc j) eb (ea ∙ ap (λ n. up n m) (sym n)) (sym half) (omega (arith, half)))
 
 -- a place under a match is even or odd
 half_of : (k c : ℕ) → (c ≡ 2 * k) ⊎ (c ≡ 2 * k + 1) → c / 2 ≡ k
@@ -142,12 +173,6 @@ module _ {K : Type 0} (cmp : K → K → Ordering) (keys : List (Option K)) (win
           where
             same : (a b : ℕ) → (a ≡ v → ⊥) → (b ≡ v → ⊥) → winner cmp keys a b ≡ winner cmp (set keys v key) a b
             same a b l r = λ i. cond (is_before cmp (sym (changed b r) i) (sym (changed a l) i)) b a
-
-  -- the same of lists that are those
-  pub changed_but_at : IsTree cmp keys winners → (v : ℕ) (key : Option K) → v < length keys → (keys_after : List (Option K)) (winners_after : List ℕ) (place : ℕ) → keys_after ≡ set keys v key → winners_after ≡ winners → place ≡ length keys + v → IsTreeBut cmp keys_after winners_after place
-  changed_but_at t v key below keys_after winners_after place keys_are winners_are place_is =
-      subst (λ xs. IsTreeBut cmp xs winners_after place) (sym keys_are)
-      (subst (λ ws. IsTreeBut cmp (set keys v key) ws place) (sym winners_are) (subst (λ p. IsTreeBut cmp (set keys v key) winners p) (sym place_is) (changed_but t v key below)))
 
   -- what one more match leaves
   module _ (leaves : HasLeaves (length keys) winners) (q w : ℕ) (from_one : 1 ≤ q) (inside : q < length keys) (won : w ≡ winner cmp keys (at_place winners (2 * q)) (at_place winners (2 * q + 1))) where
@@ -277,3 +302,91 @@ module _ {K : Type 0} (cmp : K → K → Ordering) (keys : List (Option K)) (win
         at : (v : ℕ) (other : K) → key_at keys v ≡ Some other → (v < length keys) ⊎ (length keys ≤ v) → is_lt (cmp other key) ≡ false
         at v other e (inl below) = (λ i. is_before cmp (sym e i) (sym top i)) ∙ none_before_top v below
         at v other e (inr past) = absurd (none-some other (sym (get_or_past keys v None past) ∙ e))
+
+-- the matches while a key changes: those of before, and how far up they have been held again
+pub record IsClimbing {K : Type 0} (cmp : K → K → Ordering) (before : List (Option K)) (first : List ℕ) (v : ℕ) (keys : List (Option K)) (winners : List ℕ) (place : ℕ) : Type 0 where
+  pub but : IsTreeBut cmp keys winners place
+  -- the place is that of the vertex or above it, and nothing was written before it
+  pub path : (i : ℕ) × (place ≡ up i (length before + v))
+  pub same : (k : ℕ) → k < place → at_place winners k ≡ at_place first k
+
+module _ {K : Type 0} (cmp : K → K → Ordering) (before : List (Option K)) (first : List ℕ) (t : IsTree cmp before first) (v : ℕ) (below : v < length before) where
+  -- a vertex that stands at a place above one of its places stands there too
+  stands_under : (j q i : ℕ) → q ≡ up i (length before + v) → q < 2 * length before → 1 ≤ up j q → at_place first (up j q) ≡ v → at_place first q ≡ v
+  stands_under zero q i path inside one is = is
+  stands_under (suc j) q i path inside one is =
+      let half : q / 2 ≡ up (suc i) (length before + v) = ap (λ x. x / 2) path ∙ up-half i (length before + v) in
+      let some : 1 ≤ q / 2 = omega (arith, one, up-le j (q / 2)) in
+      let there = stands_under j (q / 2) (suc i) half (omega arith) one is in
+      by some there (winner_is cmp before (at_place first (2 * (q / 2))) (at_place first (2 * (q / 2) + 1)))
+    where
+      from : (c : ℕ) → 1 ≤ q / 2 → (c ≡ 2 * (q / 2)) ⊎ (c ≡ 2 * (q / 2) + 1) → at_place first c ≡ v → at_place first q ≡ v
+      from c some child stands =
+          let range : (1 ≤ c) × (c < 2 * length before) = in_range child in
+          let above = stands_above cmp before first t v below (2 * length before) c (omega arith) range.0 range.1 stands in
+          let same : c ≡ q = same_above (length before + v) c q above.0 i above.1 path (half_of (q / 2) c child) (omega (arith, half_of (q / 2) c child)) in
+          ap (at_place first) (sym same) ∙ stands
+        where
+          in_range : (c ≡ 2 * (q / 2)) ⊎ (c ≡ 2 * (q / 2) + 1) → (1 ≤ c) × (c < 2 * length before)
+          in_range (inl e) = (omega arith, omega arith)
+          in_range (inr e) = (omega arith, omega arith)
+
+      by : 1 ≤ q / 2 → at_place first (q / 2) ≡ v → (winner cmp before (at_place first (2 * (q / 2))) (at_place first (2 * (q / 2) + 1)) ≡ at_place first (2 * (q / 2))) ⊎ (winner cmp before (at_place first (2 * (q / 2))) (at_place first (2 * (q / 2) + 1)) ≡ at_place first (2 * (q / 2) + 1)) → at_place first q ≡ v
+      by some there (inl e) = from (2 * (q / 2)) some (inl refl) (sym e ∙ sym (t.held (q / 2) some (omega arith)) ∙ there)
+      by some there (inr e) = from (2 * (q / 2) + 1) some (inr refl) (sym e ∙ sym (t.held (q / 2) some (omega arith)) ∙ there)
+
+  -- at first
+  pub climbing_begins : (key : Option K) → IsClimbing cmp before first v (set before v key) first (length (set before v key) + v)
+  climbing_begins key = subst (λ n. IsClimbing cmp before first v (set before v key) first (n + v)) (sym (length-set before v key)) (record { but = changed_but cmp before first t v key below; path = (0, refl); same = λ k lt. refl })
+
+  module _ (keys : List (Option K)) (key : Option K) (keys_are : keys ≡ set before v key) (winners : List ℕ) (p q w : ℕ) (gt : 1 < p) (half : q ≡ p / 2) (won : w ≡ winner cmp keys (at_place winners (2 * q)) (at_place winners (2 * q + 1))) (c : IsClimbing cmp before first v keys winners p) where
+    path_on : (i : ℕ) × (q ≡ up i (length before + v))
+    path_on = (suc c.path.0, half ∙ ap (λ x. x / 2) c.path.1 ∙ up-half c.path.0 (length before + v))
+
+    -- one more match is held
+    pub climbs : IsClimbing cmp before first v keys (set winners q w) q
+    climbs = record {
+      but = more_held cmp keys winners p q w gt half won c.but;
+      path = path_on;
+      same = λ k lt. get_or-set_other winners q k w 0 (λ e. omega (arith, e)) ∙ c.same k (omega (arith, half));
+    }
+
+    -- where its winner is another vertex and stays, all are held
+    pub all_held_early : at_place winners q ≡ w → (w ≡ v → ⊥) → IsTree cmp keys winners
+    all_held_early stays other = record {
+      small = c.but.small;
+      leaves = c.but.leaves;
+      held = λ k one lt. held k one lt (c.but.held k one lt);
+    }
+      where
+        len : length keys ≡ length before
+        len = ap length keys_are ∙ length-set before v key
+
+        -- the vertex stands nowhere above
+        not_above : (d k : ℕ) → 1 ≤ k → d < p → d < 2 * length before → (d ≡ 2 * k) ⊎ (d ≡ 2 * k + 1) → IsAbove q k → at_place first d ≡ v → ⊥
+        not_above d k one lt inside child (j, e) is =
+            let stands = stands_above cmp before first t v below (2 * length before) d (omega arith) (from_one child) inside is in
+            let onto : up j q ≡ up (path_on.0 + j) (length before + v) = ap (up j) path_on.1 ∙ sym (up-add path_on.0 j (length before + v)) in
+            let halves : d / 2 ≡ up j q / 2 = half_of k d child ∙ e ∙ sym (up-half j q) in
+            let there : d ≡ up j q = same_above (length before + v) d (up j q) stands.0 (path_on.0 + j) stands.1 onto halves (omega (arith, half_of k d child)) in
+            let at_q : at_place first q ≡ v = stands_under j q path_on.0 path_on.1 (omega (arith, half, c.but.inside, len)) (omega (arith, there, from_one child)) (ap (at_place first) (sym there) ∙ is) in
+            other (sym stays ∙ c.same q (omega (arith, half)) ∙ at_q)
+          where
+            from_one : (d ≡ 2 * k) ⊎ (d ≡ 2 * k + 1) → 1 ≤ d
+            from_one (inl e) = omega arith
+            from_one (inr e) = omega arith
+
+        unchanged : (u : ℕ) → (u ≡ v → ⊥) → key_at keys u ≡ key_at before u
+        unchanged u differs = ap (λ xs. key_at xs u) keys_are ∙ get_or-set_other before v u key None differs
+
+        held : (k : ℕ) → 1 ≤ k → k < length keys → IsMatch cmp keys winners k ⊎ IsAbove p k → IsMatch cmp keys winners k
+        held k one lt (inl match) = match
+        held k one lt (inr (zero, e)) = subst (λ x. IsMatch cmp keys winners x) (half ∙ sym e) (stays ∙ won)
+        held k one lt (inr (suc j, e)) =
+            let above : IsAbove q k = (j, e ∙ ap (λ x. up j (x / 2)) (sym half)) in
+            let low : 2 * k + 1 < p = omega (arith, above-le q k above, half) in
+            let l : at_place winners (2 * k) ≡ at_place first (2 * k) = c.same (2 * k) (omega arith) in
+            let r : at_place winners (2 * k + 1) ≡ at_place first (2 * k + 1) = c.same (2 * k + 1) low in
+            let left = unchanged (at_place first (2 * k)) (not_above (2 * k) k one (omega arith) (omega (arith, lt, len)) (inl refl) above) in
+            let right = unchanged (at_place first (2 * k + 1)) (not_above (2 * k + 1) k one low (omega (arith, lt, len)) (inr refl) above) in
+            c.same k (omega arith) ∙ t.held k one (omega (arith, lt, len)) ∙ (λ i. cond (is_before cmp (sym right i) (sym left i)) (at_place first (2 * k + 1)) (at_place first (2 * k))) ∙ (λ i. winner cmp keys (sym l i) (sym r i))

@@ -5,3 +5,5 @@ pub mod Start
 pub mod Tournament
 pub mod Turn
 pub mod ThreeVertices
+pub mod Seeking
+pub mod Tight

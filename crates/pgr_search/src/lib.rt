@@ -5,18 +5,23 @@
 //! Proved: a vertex has a label exactly where a walk leads from it to a target, and its label is that of
 //! such a walk and at most that of every other. Up to a bound each label is the least of its vertex too, no
 //! label that is left out is less than one that is held, the wanted vertices have theirs, and within a limit
-//! stand exactly the vertices of no greater cost. Not proved: time.
+//! stand exactly the vertices of no greater cost. [`least_tight_link`] gives the first link of a least walk. Not
+//! proved: time.
 #![tactic(auto)]
 
 mod bound;
+mod laws;
 mod relaxing;
 mod room;
 mod search;
 mod settled;
 #[cfg(test)]
 mod three_vertices;
+mod tight;
 mod tournament;
 
 pub use bound::Bound;
+pub use laws::least_walks_follow_tight_links;
 pub use room::Room;
 pub use search::{labels_to, labels_until};
+pub use tight::least_tight_link;

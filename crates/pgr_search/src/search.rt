@@ -1,5 +1,6 @@
 ghost use Rattle.std.specs.Prelude.{◌≡◌, ◌<◌, ◌≤◌, ◌^◌, Some, None, All, IsNone, IfSome, IfNone, length, slice_set, slice_index_or, Contains};
-ghost use Rattle.pgr_walks.specs.Graph.{IsLinkOf, Fits};
+ghost use Rattle.pgr_walks.specs.Graph.{Fits};
+ghost use Rattle.pgr_walks.specs.LinksOf.{LinksOf};
 ghost use Rattle.pgr_walks.specs.Label.{HoldsLabels};
 ghost use Rattle.pgr_search.specs.FinalLabels.{HoldsLabelsUpTo, MeetsBound, IsBoundOf};
 ghost use Rattle.pgr_search.specs.Relaxing.{label_cmp, CanRelax, all_relaxed};
@@ -21,10 +22,10 @@ use pgr_walks::{Graph, Label, least_labels_are_small};
 /// answer. It takes no memory.
 /// Source: Dijkstra 1959. Work, not proved: for each link the matches of a tournament among the vertices.
 pub fn labels_to<G: Graph>(g: &G, targets: &[u32], room: &mut Room)
-    requires fits { Fits (IsLinkOf (G.count g.now) (G.ins g.now)) }
+    requires fits { Fits (LinksOf G.Graph g.now) }
     requires targets { All (λ t. t < G.count g.now) targets.now }
     requires room { length room.old ≡ G.count g.now }
-    ensures labels { HoldsLabels (G.count g.now) (IsLinkOf (G.count g.now) (G.ins g.now)) targets.now room.new }
+    ensures labels { HoldsLabels (G.count g.now) (LinksOf G.Graph g.now) targets.now room.new }
     ensures size { length room.new ≡ length room.old }
 {
     labels_until(g, targets, Bound::Everywhere, room);
@@ -41,12 +42,12 @@ pub fn labels_to<G: Graph>(g: &G, targets: &[u32], room: &mut Room)
 /// No link into a vertex without a label is looked at. It takes no memory.
 /// Source: Dijkstra 1959. Work, not proved: for each link into a vertex with a label the matches of a tournament.
 pub fn labels_until<G: Graph>(g: &G, targets: &[u32], bound: Bound<'_>, room: &mut Room)
-    requires fits { Fits (IsLinkOf (G.count g.now) (G.ins g.now)) }
+    requires fits { Fits (LinksOf G.Graph g.now) }
     requires targets { All (λ t. t < G.count g.now) targets.now }
     requires bound { IsBoundOf (G.count g.now) bound }
     requires room { length room.old ≡ G.count g.now }
-    ensures labels { HoldsLabelsUpTo (G.count g.now) (IsLinkOf (G.count g.now) (G.ins g.now)) targets.now room.new }
-    ensures bound { MeetsBound (G.count g.now) (IsLinkOf (G.count g.now) (G.ins g.now)) targets.now bound.entry room.new }
+    ensures labels { HoldsLabelsUpTo (G.count g.now) (LinksOf G.Graph g.now) targets.now room.new }
+    ensures bound { MeetsBound (G.count g.now) (LinksOf G.Graph g.now) targets.now bound.entry room.new }
     ensures size { length room.new ≡ length room.old }
 {
     search(g, targets, bound, &mut room.settled, &mut room.waiting);
@@ -61,15 +62,15 @@ fn search<G: Graph>(
     settled: &mut Settled,
     waiting: &mut Tournament<Label>,
 )
-    requires fits { Fits (IsLinkOf (G.count g.now) (G.ins g.now)) }
+    requires fits { Fits (LinksOf G.Graph g.now) }
     requires targets { All (λ t. t < G.count g.now) targets.now }
     requires bound { IsBoundOf (G.count g.now) bound }
     requires settled { length settled.old ≡ G.count g.now }
     requires waiting { length waiting.old ≡ G.count g.now }
     requires none { All IsNone waiting.old }
     requires small { G.count g.now < 2 ^ 32 }
-    ensures labels { HoldsLabelsUpTo (G.count g.now) (IsLinkOf (G.count g.now) (G.ins g.now)) targets.now settled.new }
-    ensures bound { MeetsBound (G.count g.now) (IsLinkOf (G.count g.now) (G.ins g.now)) targets.now bound.entry settled.new }
+    ensures labels { HoldsLabelsUpTo (G.count g.now) (LinksOf G.Graph g.now) targets.now settled.new }
+    ensures bound { MeetsBound (G.count g.now) (LinksOf G.Graph g.now) targets.now bound.entry settled.new }
     ensures waiting { length waiting.new ≡ length waiting.old }
 {
     least_labels_are_small(g);

@@ -35,8 +35,8 @@ impl Settled {
     pub fn for_size(alloc: Global, n: u32) -> Result<Settled, NoMemory>
         ensures { IfOk result (λ settled. settled ≡ replicate n None) }
     {
-        let labels = vec![in alloc; None; n as usize].map_err(|_| NoMemory)?;
-        let order = vec![in alloc; 0; n as usize].map_err(|_| NoMemory)?;
+        let labels = vec![in alloc; None; n as usize]?;
+        let order = vec![in alloc; 0; n as usize]?;
         Ok(Settled {
             labels,
             order,

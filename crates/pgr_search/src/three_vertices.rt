@@ -1,7 +1,7 @@
 ghost use Rattle.std.specs.Prelude.{◌≡◌, ◌∷◌, []};
 ghost use Rattle.pgr_walks.specs.Visit.{Admits, shown};
 
-use super::{Room, labels_to};
+use super::{Bound, Room, labels_to, labels_until, least_tight_link};
 use pgr_walks::{Graph, Label, Link, LinkVisitor, Next};
 use std::test::Fail;
 
@@ -81,5 +81,66 @@ fn labels_are_least_in_cost_and_then_in_hops(rt: HostRuntime) -> Result<(), Fail
     assert_eq!(rt; room.label(0), Some(Label { cost: 0, hops: 0 }));
     assert_eq!(rt; room.label(1), None);
     assert_eq!(rt; room.label(2), None);
+    Ok(())
+}
+
+#[test]
+fn a_search_ends_as_soon_as_the_wanted_vertices_have_labels(rt: HostRuntime) -> Result<(), Fail> {
+    let mut room = Room::for_size(rt.alloc(), 3)?;
+    labels_until(
+        &ThreeVertices,
+        &[2],
+        Bound::Wanted([1, 1].as_slice()),
+        &mut room,
+    );
+    assert_eq!(rt; room.label(0), None);
+    assert_eq!(rt; room.label(1), Some(Label { cost: 0, hops: 1 }));
+    assert_eq!(rt; room.label(2), Some(Label { cost: 0, hops: 0 }));
+    labels_until(
+        &ThreeVertices,
+        &[2],
+        Bound::Wanted([1, 0].as_slice()),
+        &mut room,
+    );
+    assert_eq!(rt; room.label(0), Some(Label { cost: 2, hops: 1 }));
+    labels_until(
+        &ThreeVertices,
+        &[1],
+        Bound::Wanted([2].as_slice()),
+        &mut room,
+    );
+    assert_eq!(rt; room.label(0), Some(Label { cost: 2, hops: 1 }));
+    assert_eq!(rt; room.label(2), None);
+    labels_until(
+        &ThreeVertices,
+        &[2],
+        Bound::Wanted([].as_slice()),
+        &mut room,
+    );
+    assert_eq!(rt; room.label(2), None);
+    Ok(())
+}
+
+#[test]
+fn a_vertex_exactly_at_the_limit_has_a_label(rt: HostRuntime) -> Result<(), Fail> {
+    let mut room = Room::for_size(rt.alloc(), 3)?;
+    labels_until(&ThreeVertices, &[2], Bound::Limit(2), &mut room);
+    assert_eq!(rt; room.label(0), Some(Label { cost: 2, hops: 1 }));
+    labels_until(&ThreeVertices, &[2], Bound::Limit(1), &mut room);
+    assert_eq!(rt; room.label(0), None);
+    assert_eq!(rt; room.label(1), Some(Label { cost: 0, hops: 1 }));
+    labels_until(&ThreeVertices, &[0], Bound::Limit(0), &mut room);
+    assert_eq!(rt; room.label(0), Some(Label { cost: 0, hops: 0 }));
+    assert_eq!(rt; room.label(1), None);
+    Ok(())
+}
+
+#[test]
+fn the_least_tight_link_goes_on_to_the_target(rt: HostRuntime) -> Result<(), Fail> {
+    let mut room = Room::for_size(rt.alloc(), 3)?;
+    labels_to(&ThreeVertices, &[2], &mut room);
+    assert_eq!(rt; least_tight_link(&ThreeVertices, 0, &room), Some(TO_TWO));
+    assert_eq!(rt; least_tight_link(&ThreeVertices, 1, &room), Some(ON_TO_TWO));
+    assert_eq!(rt; least_tight_link(&ThreeVertices, 2, &room), None);
     Ok(())
 }

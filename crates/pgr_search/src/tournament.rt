@@ -1,5 +1,5 @@
 ghost use Rattle.std.specs.Prelude.{◌≡◌, ◌<◌, ◌*◌, ◌^◌, None, Some, IsNone, All, IfOk, IfSome, IfNone, length, replicate, slice_set, slice_index_or};
-ghost use Rattle.pgr_search.specs.Tournament.{is_before as before, winner as winner_of, lowered, IsLeast, HasLeaves, IsTree, IsTreeBut};
+ghost use Rattle.pgr_search.specs.Tournament.{is_before as before, winner as winner_of, lowered, IsLeast, HasLeaves, IsTree};
 
 use pgr_outside::NoMemory;
 use std::alloc::Global;
@@ -46,8 +46,8 @@ impl<K: Ord + Copy> Tournament<K> {
     pub fn for_size(alloc: Global, n: u32) -> Result<Tournament<K>, NoMemory>
         ensures { IfOk result (λ tournament. tournament ≡ replicate n None) }
     {
-        let keys = vec![in alloc; None; n as usize].map_err(|_| NoMemory)?;
-        let mut winners = vec![in alloc; 0; 2 * n as usize].map_err(|_| NoMemory)?;
+        let keys = vec![in alloc; None; n as usize]?;
+        let mut winners = vec![in alloc; 0; 2 * n as usize]?;
         fill_leaves(n, winners.as_mut_slice());
         hold_matches(keys.as_slice(), winners.as_mut_slice());
         Ok(Tournament { keys, winners })
@@ -66,9 +66,12 @@ impl<K: Ord + Copy> Tournament<K> {
         requires { v < length self.old }
         ensures { self.new ≡ slice_set self.old v key }
     {
-        self.keys[v as usize] = key;
-        let place = self.keys.len() + v as usize;
-        mend(self.keys.as_slice(), self.winners.as_mut_slice(), place);
+        change(
+            v,
+            key,
+            self.keys.as_mut_slice(),
+            self.winners.as_mut_slice(),
+        );
     }
 
     /// Gives a vertex this key where it has none or this one is before it.
@@ -149,14 +152,21 @@ fn hold_matches<K: Ord + Copy>(keys: &[Option<K>], winners: &mut [u32])
     }
 }
 
-/// Holds the matches above a place again, since the key there has changed.
-fn mend<K: Ord + Copy>(keys: &[Option<K>], winners: &mut [u32], place: usize)
-    requires { IsTreeBut K.cmp keys.now winners.old place }
-    ensures { IsTree K.cmp keys.now winners.new }
+/// Gives a vertex this key, and holds the matches above its place again, up to one that another vertex wins as before.
+fn change<K: Ord + Copy>(v: u32, key: Option<K>, keys: &mut [Option<K>], winners: &mut [u32])
+    requires vertex { v < length keys.old }
+    requires tree { IsTree K.cmp keys.old winners.old }
+    ensures keys { keys.new ≡ slice_set keys.old v key }
+    ensures tree { IsTree K.cmp keys.new winners.new }
 {
-    let mut place = place;
+    keys[v as usize] = key;
+    let mut place = keys.len() + v as usize;
     while place > 1 {
         place /= 2;
-        winners[place] = winner(keys, winners[2 * place], winners[2 * place + 1]);
+        let wins = winner(keys, winners[2 * place], winners[2 * place + 1]);
+        if wins != v && wins == winners[place] {
+            return;
+        }
+        winners[place] = wins;
     }
 }

@@ -1,13 +1,13 @@
 use Rattle.std.proofs.Common.{◌≡◌, refl, sym, ◌∙◌, subst, arith}
 use Rattle.pgr_route.specs.Chain.{walk_chain}
-use Rattle.pgr_route.specs.Tight.{label_at, IsLeastTight}
+use Rattle.pgr_search.specs.Tight.{label_at, IsLeastTight}
 use Rattle.pgr_route.proofs.TightWalks.{IsBest, walk_push, best_cost}
 use Rattle.pgr_route.proofs.LeastWalk.{best_is_least, no_label_nowhere, label_there, label_gone}
 use Rattle.pgr_route.proofs.least.least_route.Goals as goal
 
 pub returns-then-is_none-clause-none : goal.returns-then-is_none-clause-none
 returns-then-is_none-clause-none g c =
-    no_label_nowhere _ _ c.args.room.now c.args.from c.requires.from (sym c.label.ensures ∙ label_gone c.label.result c.if-is_none.ensures)
+    no_label_nowhere _ _ c.args.room.now c.args.from (sym c.label.ensures ∙ label_gone c.label.result c.if-is_none.ensures)
 
 pub loop-link-preserved : goal.loop-link-preserved
 loop-link-preserved g c =
@@ -34,4 +34,4 @@ of-requires-clause-cost g c =
 pub returns-clause-least : goal.returns-clause-least
 returns-clause-least g c = λ targets holds.
     let last = label_there (label_at c.args.room.now c.loop-link.at) c.loop-link.invariant.labelled in
-    rw c.of.ensures (best_is_least _ _ _ _ (g.met.G.Graph.lawful c.args.g.now) targets holds c.loop-link.links.items c.args.from c.loop-link.at last.0 c.requires.from c.loop-link.invariant.within c.loop-link.invariant.best last.1 c.in_default.ensures.none)
+    rw c.of.ensures (best_is_least _ _ _ _ (g.met.G.Graph.lawful c.args.g.now) targets holds.final (c.least_walks_follow_tight_links.ensures.first targets c.args.room.now holds.final) c.loop-link.links.items c.args.from c.loop-link.at last.0 c.loop-link.invariant.best last.1 c.in_default.ensures.none)

@@ -1,6 +1,6 @@
 use Rattle.std.proofs.Common.{◌<◌, IsSome}
 use Rattle.pgr_walks.specs.Walk.{IsWalk}
-use Rattle.pgr_route.specs.Tight.{label_at}
+use Rattle.pgr_search.specs.Tight.{label_at}
 use Rattle.pgr_route.proofs.TightWalks.{IsBest, hops_at}
 use Rattle.pgr_route.proofs.least.least_route.Given as goal
 

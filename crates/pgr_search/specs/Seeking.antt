@@ -4,7 +4,7 @@ use Rattle.pgr_walks.specs.declared.link.LinkOf.{LinkOf}
 use Rattle.pgr_walks.specs.declared.label.Label.{Label}
 use Rattle.pgr_walks.specs.declared.visitor.Next.{Next}
 use Rattle.pgr_walks.specs.declared.visitor.Next.TheVariants.{Go, Stop}
-use Rattle.pgr_route.specs.Tight.{label_at}
+use Rattle.pgr_search.specs.Tight.{label_at}
 
 -- the label of the vertex, the labels of all, and the tight link that was found
 pub record Seeking : Type 0 where

@@ -11,8 +11,8 @@ use Rattle.pgr_walks.specs.Label.{beyond}
 use Rattle.pgr_walks.specs.Graph.{IsStrictlyRising}
 use Rattle.pgr_walks.specs.declared.visitor.Next.TheVariants.{Go, Stop}
 use Rattle.pgr_walks.specs.Visit.{shown, Admits}
-use Rattle.pgr_route.specs.Tight.{label_at, IsTight, IsLeastTight}
-use Rattle.pgr_route.specs.Seeking.{Seeking, is_beyond, is_tight, seek, seek_on, MayBeSought}
+use Rattle.pgr_search.specs.Tight.{label_at, IsTight, IsLeastTight}
+use Rattle.pgr_search.specs.Seeking.{Seeking, is_beyond, is_tight, seek, seek_on, MayBeSought}
 
 -- the test says that one label is that of where the link leads, with its cost and one hop more
 is_beyond-true : (here there : Label) (link : LinkOf ℕ) → is_beyond here there link ≡ true → here ≡ beyond there link

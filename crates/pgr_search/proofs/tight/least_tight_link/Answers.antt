@@ -1,6 +1,6 @@
 use Rattle.std.proofs.Common.{None, sym, ap, arith}
-use Rattle.pgr_route.proofs.SeekingLemmas.{admits_seeking, found_from, found_least, found_none, no_label_not_tight}
-use Rattle.pgr_route.proofs.tight.least_tight_link.Goals as goal
+use Rattle.pgr_search.proofs.SeekingLemmas.{admits_seeking, found_from, found_least, found_none, no_label_not_tight}
+use Rattle.pgr_search.proofs.tight.least_tight_link.Goals as goal
 
 pub returns-in_err-here-clause-none : goal.returns-in_err-here-clause-none
 returns-in_err-here-clause-none g c =

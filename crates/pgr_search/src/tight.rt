@@ -1,9 +1,9 @@
 ghost use Rattle.std.specs.Prelude.{◌≡◌, ℕ, ◌<◌, length, Contains, IfSome, IfNone};
 ghost use Rattle.pgr_walks.specs.declared.link.LinkOf.{LinkOf};
-ghost use Rattle.pgr_route.specs.Tight.{IsTight, IsLeastTight};
-ghost use Rattle.pgr_route.specs.Seeking.{is_beyond};
+ghost use Rattle.pgr_search.specs.Tight.{IsTight, IsLeastTight};
+ghost use Rattle.pgr_search.specs.Seeking.{is_beyond};
 
-use pgr_search::Room;
+use crate::room::Room;
 use pgr_walks::{Graph, Label, Link, LinkVisitor, Next};
 
 /// The least tight link out of a vertex by edge, then cost, then where it leads, or none where no link out of it is tight.
@@ -36,7 +36,7 @@ struct Seeker<'a> {
 }
 
 impl<'a> LinkVisitor for Seeker<'a> {
-    ghost use Rattle.pgr_route.specs.Seeking.{Seeking, seek, seek_on, MayBeSought};
+    ghost use Rattle.pgr_search.specs.Seeking.{Seeking, seek, seek_on, MayBeSought};
 
     ghost Meaning = { Seeking };
 

@@ -1,0 +1,11 @@
+use Rattle.pgr_search.proofs.ThreeVerticesFit.{fits}
+use Rattle.pgr_search.proofs.three_vertices.a_vertex_exactly_at_the_limit_has_a_label.Goals as goal
+
+pub labels_until-requires-clause-fits : goal.labels_until-requires-clause-fits
+labels_until-requires-clause-fits g c = fits
+
+pub labels_until-requires-2-clause-fits : goal.labels_until-requires-2-clause-fits
+labels_until-requires-2-clause-fits g c = fits
+
+pub labels_until-requires-3-clause-fits : goal.labels_until-requires-3-clause-fits
+labels_until-requires-3-clause-fits g c = fits
