@@ -8,7 +8,8 @@ use Rattle.pgr_words.specs.declared.command.Command.{Command}
 use Rattle.pgr_table.specs.declared.row.EdgeRow.{EdgeRow}
 use Rattle.pgr_table.specs.declared.row.PairRow.{PairRow}
 use Rattle.pgr_table.specs.declared.fault.TableFault.{TableFault}
-use Rattle.pgr_table.specs.Judging.{judged_edges, judged_pairs}
+use Rattle.pgr_table.specs.Edges.{judged_edges}
+use Rattle.pgr_table.specs.Pairs.{judged_pairs}
 use Rattle.pgr_rows.specs.declared.rows.Rows.{Rows}
 use Rattle.pgr_answer.specs.declared.role.Role.TheVariants.{Edges, Combinations}
 use Rattle.pgr_answer.specs.Files.{refusal_of, IsAccepted}

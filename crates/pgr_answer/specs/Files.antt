@@ -3,7 +3,8 @@ use Rattle.std.specs.Prelude.{◌≡◌, ℕ, List, ◌∷◌, length, if◌then
 use Rattle.std.specs.Option.{option_to_list}
 use Rattle.pgr_words.specs.declared.command.Command.{Command}
 use Rattle.pgr_table.specs.declared.fault.TableFault.{TableFault}
-use Rattle.pgr_table.specs.Judging.{judged_edges, judged_pairs}
+use Rattle.pgr_table.specs.Edges.{judged_edges}
+use Rattle.pgr_table.specs.Pairs.{judged_pairs}
 use Rattle.pgr_answer.specs.declared.role.Role.{Role}
 use Rattle.pgr_answer.specs.declared.role.Role.TheVariants.{Edges, Combinations}
 use Rattle.pgr_answer.specs.declared.refused.Refused.{Refused}

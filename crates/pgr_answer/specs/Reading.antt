@@ -1,7 +1,7 @@
 -- What is read of the files of a command.
 use Rattle.std.specs.Prelude.{◌≡◌, ℕ, List, Option, Some, None, Ok, IfSome, IsSomeAnd}
 use Rattle.pgr_table.specs.declared.row.PairRow.{PairRow}
-use Rattle.pgr_table.specs.Judging.{judged_pairs}
+use Rattle.pgr_table.specs.Pairs.{judged_pairs}
 use Rattle.pgr_answer.specs.declared.role.Role.TheVariants.{Combinations}
 use Rattle.pgr_answer.specs.declared.refused.Refused.{Refused}
 use Rattle.pgr_answer.specs.Files.{refusal_of}

@@ -3,7 +3,8 @@ use Rattle.std.specs.Prelude.{◌≡◌, ℕ, List, [], Option, Ok, IsSomeAnd, M
 use Rattle.pgr_words.specs.declared.command.Command.{Command}
 use Rattle.pgr_table.specs.declared.row.EdgeRow.{EdgeRow}
 use Rattle.pgr_table.specs.declared.row.PairRow.{PairRow}
-use Rattle.pgr_table.specs.Judging.{judged_edges, judged_pairs}
+use Rattle.pgr_table.specs.Edges.{judged_edges}
+use Rattle.pgr_table.specs.Pairs.{judged_pairs}
 
 -- the rows of the tables of a command
 pub record Tables : Type 0 where

@@ -1,6 +1,7 @@
 ghost use Rattle.std.specs.Prelude.{◌≡◌, Ok, None, IfOk, IfErr, IfSome};
 ghost use Rattle.pgr_outside.specs.Faults.{NoneFell};
-ghost use Rattle.pgr_table.specs.Judging.{judged_edges, judged_pairs};
+ghost use Rattle.pgr_table.specs.Edges.{judged_edges};
+ghost use Rattle.pgr_table.specs.Pairs.{judged_pairs};
 ghost use Rattle.pgr_answer.specs.Refusals.{IsRefused, from_read, from_table};
 ghost use Rattle.pgr_answer.specs.Files.{refusal_of};
 ghost use Rattle.pgr_answer.specs.Reading.{AreCombinations, AreCombinationsRefused};

@@ -8,7 +8,8 @@ use Rattle.pgr_walks.specs.Walk.{IsWalk, cost_of, vertices_of}
 use Rattle.pgr_walks.specs.Graph.{Fits}
 use Rattle.pgr_walks.proofs.Repeats.{Among, Apart, Apart-from_IsWithoutRepeats}
 use Rattle.pgr_table.specs.declared.row.EdgeRow.{EdgeRow}
-use Rattle.pgr_table.specs.Rows.{counted, AreAccepted}
+use Rattle.pgr_table.specs.Rows.{counted}
+use Rattle.pgr_table.specs.Edges.{AreAccepted}
 use Rattle.pgr_graph.specs.declared.links.Direction.{Direction}
 use Rattle.pgr_graph.specs.declared.links.Direction.TheVariants.{Forward, Backward}
 use Rattle.pgr_graph.specs.Links.{HasSense, link_along, IsLinkOfRow, IsLinkOfTable}

@@ -3,7 +3,7 @@ use Rattle.std.specs.Prelude.{ℕ, List, ◌++◌, codes, decimal}
 use Rattle.pgr_words.specs.Options as options
 use Rattle.pgr_words.specs.declared.fault.WordFault.{WordFault}
 use Rattle.pgr_words.specs.declared.fault.WordFault.TheVariants.{NoFunction, UnknownFunction, BadWord, UnknownOption, RepeatedOption, BadValue, MissingOption}
-use Rattle.pgr_table.specs.Kinds as columns
+use Rattle.pgr_table.specs.Columns as columns
 use Rattle.pgr_table.specs.declared.fault.TableFault.{TableFault}
 use Rattle.pgr_table.specs.declared.fault.TableFault.TheVariants.{NoHeader, UnevenRecord, MissingColumn, RepeatedColumn, BadField, DuplicateId, TooManyRows, CostSum}
 use Rattle.pgr_answer.specs.Roles as roles
@@ -26,9 +26,9 @@ words_text (MissingOption option) = codes "option " ++ options.name_of option ++
 abbrev pub table_text : TableFault → List ℕ
 table_text NoHeader = codes "no header"
 table_text (UnevenRecord number) = codes "record " ++ decimal number ++ codes " is uneven"
-table_text (MissingColumn column) = codes "column " ++ columns.text_of column ++ codes " missing"
-table_text (RepeatedColumn column) = codes "column " ++ columns.text_of column ++ codes " repeated"
-table_text (BadField number column) = codes "record " ++ decimal number ++ codes ": bad " ++ columns.text_of column
+table_text (MissingColumn column) = codes "column " ++ columns.name_of column ++ codes " missing"
+table_text (RepeatedColumn column) = codes "column " ++ columns.name_of column ++ codes " repeated"
+table_text (BadField number column) = codes "record " ++ decimal number ++ codes ": bad " ++ columns.name_of column
 table_text (DuplicateId number) = codes "record " ++ decimal number ++ codes ": id repeated"
 table_text (TooManyRows number) = codes "record " ++ decimal number ++ codes ": too many rows"
 table_text (CostSum number) = codes "record " ++ decimal number ++ codes ": sum too large"

@@ -1,7 +1,7 @@
 ghost use Rattle.std.specs.Prelude.{◌≡◌, ◌+◌, ◌≤◌, ◌++◌, length, codes, decimal};
 ghost use Rattle.arrayvec.specs.ArrayString.{array_string_len};
 ghost use Rattle.pgr_words.specs.Options as options;
-ghost use Rattle.pgr_table.specs.Kinds as columns;
+ghost use Rattle.pgr_table.specs.Columns as columns;
 ghost use Rattle.pgr_answer.specs.Roles as roles;
 ghost use Rattle.pgr_run.specs.Messages.{message_of, text_of, words_text, table_text, refused_text};
 
@@ -111,7 +111,7 @@ fn push_option(line: &mut ArrayString<MESSAGE_BYTES>, option: OptionName, after:
 /// Adds a column by its name, and a text.
 fn push_column(line: &mut ArrayString<MESSAGE_BYTES>, column: Column, after: &str)
     requires room { array_string_len line.old + 19 + length after.now ≤ MESSAGE_BYTES }
-    ensures bytes { line.new.bytes ≡ line.old.bytes ++ (codes "column " ++ columns.text_of column ++ after.now) }
+    ensures bytes { line.new.bytes ≡ line.old.bytes ++ (codes "column " ++ columns.name_of column ++ after.now) }
     ensures len { array_string_len line.new ≤ array_string_len line.old + 19 + length after.now }
 {
     line.push_str("column ");

@@ -6,8 +6,8 @@ use Rattle.pgr_table.specs.declared.row.PairRow.{PairRow}
 use Rattle.pgr_table.specs.declared.column.Column.TheVariants as column
 use Rattle.pgr_table.specs.declared.fault.TableFault.{TableFault}
 use Rattle.pgr_table.specs.declared.fault.TableFault.TheVariants as fault
-use Rattle.pgr_table.specs.Kinds.{edge_kind, pair_kind}
-use Rattle.pgr_table.specs.Rows.{edge_of, pair_of}
+use Rattle.pgr_table.specs.Edges.{edge_kind, edge_of}
+use Rattle.pgr_table.specs.Pairs.{pair_kind, pair_of}
 use Rattle.pgr_table.specs.Judging.{judged_records, with_rows}
 
 -- the verdict on the records of edges, and of combinations

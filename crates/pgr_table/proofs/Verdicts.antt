@@ -6,8 +6,8 @@ use Rattle.pgr_table.specs.declared.fault.TableFault.{TableFault}
 use Rattle.pgr_table.specs.declared.fault.TableFault.TheVariants.{NoHeader}
 use Rattle.pgr_table.specs.declared.fault.TableRefused.{TableRefused}
 use Rattle.pgr_table.specs.declared.fault.TableRefused.TheVariants.{Fault, Memory}
-use Rattle.pgr_table.specs.Kept.{IsFault, IsVerdictSeen}
-use Rattle.pgr_table.specs.Judging.{first_of, columns_fault, found_in, row_of, fault_of, faults_behind, verdict, judged_records, with_rows, IsVerdict}
+use Rattle.pgr_table.specs.Kept.{IsFault}
+use Rattle.pgr_table.specs.Judging.{first_of, columns_fault, found_in, row_of, fault_of, faults_behind, verdict, judged_records, with_rows, IsVerdict, IsVerdictSeen}
 
 -- the verdict on rows that have no fault and the records behind them
 abbrev pub verdict_behind : List Found → ℕ → List (List ℤ) → List (List (List ℕ)) → Result (List (List ℤ)) TableFault

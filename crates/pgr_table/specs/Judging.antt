@@ -8,10 +8,9 @@ use Rattle.std.specs.List.{list_any, filter_map, zip}
 use Rattle.std.specs.Option.{option_or, option_map_or}
 use Rattle.std.specs.Ordering.{int_eq}
 use Rattle.csv.specs.Reading.{records, default_config, strip_bom}
-use Rattle.pgr_table.specs.Rows.{counted, edge_of, pair_of, most_rows, greatest}
-use Rattle.pgr_table.specs.Kinds.{text_of, value_of, edge_kind, pair_kind, is_distinct, is_summed}
-use Rattle.pgr_table.specs.declared.row.EdgeRow.{EdgeRow}
-use Rattle.pgr_table.specs.declared.row.PairRow.{PairRow}
+use Rattle.pgr_table.specs.Rows.{counted, most_rows, greatest}
+use Rattle.pgr_table.specs.Columns.{name_of}
+use Rattle.pgr_table.specs.Kinds.{value_of, is_distinct, is_summed}
 use Rattle.pgr_table.specs.declared.column.Column.{Column}
 use Rattle.pgr_table.specs.declared.kind.Rule.{Rule}
 use Rattle.pgr_table.specs.declared.found.Found.{Found}
@@ -32,7 +31,7 @@ places_from place name (field ∷ fields) = if bytes_eq field name then place �
 
 -- the places at which a header has a column
 abbrev pub places_of : List (List ℕ) → Rule → List ℕ
-places_of header rule = places_from 0 (text_of rule.column) header
+places_of header rule = places_from 0 (name_of rule.column) header
 
 -- the fault of a column that stands at these places: it is missing, or it stands twice
 abbrev pub fault_at : Rule → List ℕ → Option TableFault
@@ -139,16 +138,12 @@ abbrev pub with_rows : {Row : Type 0} → (List ℤ → Row) → Result (List (L
 with_rows make (Ok rows) = Ok (map make rows)
 with_rows make (Err fault) = Err fault
 
--- the verdict on the bytes of a table of edges
-abbrev pub judged_edges : List ℕ → Result (List EdgeRow) TableFault
-judged_edges bytes = with_rows edge_of (judged edge_kind bytes)
-
--- the verdict on the bytes of a table of combinations
-abbrev pub judged_pairs : List ℕ → Result (List PairRow) TableFault
-judged_pairs bytes = with_rows pair_of (judged pair_kind bytes)
+-- an answer whose rows are seen so is the verdict, unless memory was wanting
+abbrev pub IsVerdictSeen : {Table Rows : Type 0} → (Table → Rows) → Result Table TableRefused → Result Rows TableFault → Type 0
+IsVerdictSeen rows (Ok table) verdict = verdict ≡ Ok (rows table)
+IsVerdictSeen rows (Err (Fault fault)) verdict = verdict ≡ Err fault
+IsVerdictSeen rows (Err Memory) verdict = Unit {0}
 
 -- an answer is the verdict, unless memory was wanting
 abbrev pub IsVerdict : {Rows : Type 0} → Result Rows TableRefused → Result Rows TableFault → Type 0
-IsVerdict (Ok rows) verdict = verdict ≡ Ok rows
-IsVerdict (Err (Fault fault)) verdict = verdict ≡ Err fault
-IsVerdict (Err Memory) verdict = Unit {0}
+IsVerdict result verdict = IsVerdictSeen (λ rows. rows) result verdict

@@ -1,5 +1,9 @@
+pub mod Columns
+pub mod FaultText
 pub mod Rows
 pub mod Kinds
 pub mod Judging
+pub mod Edges
+pub mod Pairs
 pub mod Kept
 pub mod RecordsLeft

@@ -1,5 +1,5 @@
 ghost use Rattle.std.specs.Prelude.{◌≡◌};
-ghost use Rattle.pgr_table.specs.Kinds.{text_of};
+ghost use Rattle.pgr_table.specs.Columns.{name_of};
 
 use std::fmt;
 
@@ -21,7 +21,7 @@ pub enum Column {
 impl Column {
     /// The column's name, as a header has it.
     pub fn name(self) -> &'static str
-        ensures { result.now ≡ text_of self }
+        ensures { result.now ≡ name_of self }
     {
         match self {
             Column::Id => "id",

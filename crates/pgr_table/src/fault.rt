@@ -1,5 +1,6 @@
 use crate::column::Column;
 use pgr_outside::NoMemory;
+use std::alloc::AllocFailed;
 use thiserror::Error;
 
 /// Why a table isn't accepted: the first fault, in this order.
@@ -13,25 +14,25 @@ pub enum TableFault {
     #[error("no header")]
     NoHeader,
     /// The record with this number hasn't as many fields as the header.
-    #[error("record {0}: another number of fields than the header")]
+    #[error("record {0} is uneven")]
     UnevenRecord(u64),
     /// The header hasn't this column.
-    #[error("no column {0}")]
+    #[error("column {0} missing")]
     MissingColumn(Column),
     /// The header has this column twice.
-    #[error("the column {0} stands twice")]
+    #[error("column {0} repeated")]
     RepeatedColumn(Column),
     /// In the record with this number the field of this column isn't in its grammar.
     #[error("record {0}: bad {1}")]
     BadField(u64, Column),
     /// The id of the record with this number stood before.
-    #[error("record {0}: an id that stood before")]
+    #[error("record {0}: id repeated")]
     DuplicateId(u64),
     /// The record with this number is number 4,194,306.
     #[error("record {0}: too many rows")]
     TooManyRows(u64),
     /// With the record with this number the sum of the costs passes 2^63 - 1.
-    #[error("record {0}: the sum of the costs is too great")]
+    #[error("record {0}: sum too large")]
     CostSum(u64),
 }
 
@@ -41,7 +42,7 @@ pub enum TableRefused {
     /// The table isn't accepted.
     #[error(transparent)]
     Fault(TableFault),
-    /// Memory was wanting.
+    /// Out of memory.
     #[error("want of memory")]
     Memory,
 }
@@ -53,6 +54,17 @@ impl From<NoMemory> for TableRefused {
     ghost from_gives = { λ _ refused. refused ≡ Memory };
 
     fn from(_: NoMemory) -> TableRefused {
+        TableRefused::Memory
+    }
+}
+
+impl<T: Drop> From<AllocFailed<T>> for TableRefused {
+    ghost use Rattle.std.specs.Prelude.{◌≡◌};
+    ghost use Rattle.pgr_table.specs.declared.fault.TableRefused.TheVariants.{Memory};
+
+    ghost from_gives = { λ _ refused. refused ≡ Memory };
+
+    fn from(_: AllocFailed<T>) -> TableRefused {
         TableRefused::Memory
     }
 }

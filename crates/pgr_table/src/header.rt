@@ -11,26 +11,25 @@ use crate::kind::Rule;
 use csv::ByteRecord;
 use std::alloc::Global;
 
-// The columns of a kind with their places in the header, or the first fault of one.
+/// The columns of a kind with their places in the header, or the first fault of one.
 pub(crate) fn find_columns(
     alloc: Global,
     kind: &[Rule],
     header: &ByteRecord,
 ) -> Result<Vec<Found>, TableRefused>
-    ensures fault { MatchResult result (λ _. columns_fault (fields_of header.now) kind.now ≡ None) (λ refused. IsFault refused (columns_fault (fields_of header.now) kind.now)) }
+    ensures fault { let fault = columns_fault (fields_of header.now) kind.now in
+        MatchResult result (λ _. fault ≡ None) (λ refused. IsFault refused fault) }
     ensures found { IfOk result (λ columns. columns.items ≡ map (found_in (fields_of header.now)) kind.now) }
 {
     let mut columns = Vec::new(alloc);
     for rule in kind {
         let place = find_column(header, rule)?;
-        let Ok(()) = columns.push(Found { rule: *rule, place }) else {
-            return Err(TableRefused::Memory);
-        };
+        columns.push(Found { rule: *rule, place })?;
     }
     Ok(columns)
 }
 
-// The place of a column in the header, or its fault.
+/// The place of a column in the header, or its fault.
 fn find_column(header: &ByteRecord, rule: &Rule) -> Result<Option<usize>, TableFault>
     ensures fault { result_err result ≡ column_fault (fields_of header.now) rule.now }
     ensures place { IfOk result (λ place. (found_in (fields_of header.now) rule.now).place ≡ place) }
@@ -51,7 +50,7 @@ fn find_column(header: &ByteRecord, rule: &Rule) -> Result<Option<usize>, TableF
     Ok(found)
 }
 
-// Whether the field at a place is there and is this.
+/// Whether the field at a place is there and is this.
 fn has_field(fields: &ByteRecord, place: usize, name: &[u8]) -> bool
     ensures { let there = field_at (fields_of fields.now) place in
         result ≡ option_map_or (λ field. bytes_eq field name.now) there false }

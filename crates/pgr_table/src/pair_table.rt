@@ -1,13 +1,35 @@
 ghost use Rattle.std.specs.Prelude.{◌≡◌, ◌≤◌, ◌<◌, ◌↔◌, [], length, IsTrue, Some, slice_get};
 ghost use Rattle.pgr_table.specs.Rows.{most_rows};
+ghost use Rattle.pgr_table.specs.Judging.{IsVerdict};
+ghost use Rattle.pgr_table.specs.Pairs.{pair_kind, pair_of, judged_pairs};
+ghost use Rattle.pgr_table.specs.Kept.{IsRow};
 
-use crate::kind::{Rule, pair_rules};
+use crate::column::Column;
+use crate::fault::TableRefused;
+use crate::growing::Growing;
+use crate::kind::{Check, Grammar, Rule};
+use crate::reading::read_table;
 use crate::row::PairRow;
 use crate::table::Table;
-use crate::values::pair_row;
 use pgr_outside::NoMemory;
 use std::alloc::Global;
 use std::marker::Model;
+
+/// The columns of a table of combinations, in the order of judging.
+const PAIRS: [Rule; 2] = [
+    Rule {
+        column: Column::Source,
+        grammar: Grammar::Integer,
+        absent: None,
+        check: Check::Free,
+    },
+    Rule {
+        column: Column::Target,
+        grammar: Grammar::Integer,
+        absent: None,
+        check: Check::Free,
+    },
+];
 
 /// The rows of a table of combinations that is accepted, in the order of the table, which contracts see as their list.
 ///
@@ -27,6 +49,19 @@ impl Model for PairTable {
     ghost view = { λ table. table.rows.items };
 
     ghost invariant = { λ table. length table.rows.items ≤ most_rows };
+}
+
+/// The combinations that the bytes are, or why they are none.
+///
+/// They are CSV as in [`read_edges`], with the columns `source` and `target`, in any order and among others. Both are an
+/// optional hyphen and digits, in the range of `i64`. A pair may stand twice, and then is two rows.
+///
+/// `Fault` comes exactly where the bytes have one, and is the first: see [`TableFault`]. There are at most 4,194,304 rows.
+/// `Memory` may come at any bytes. Work, not proved: a step for each byte.
+pub fn read_combinations(alloc: Global, bytes: &[u8]) -> Result<PairTable, TableRefused>
+    ensures { IsVerdict result (judged_pairs bytes.now) }
+{
+    read_table::<PairTable>(alloc, bytes)
 }
 
 impl PairTable {
@@ -55,16 +90,30 @@ impl PairTable {
 }
 
 impl Table for PairTable {
+    ghost use Rattle.pgr_table.specs.declared.row.PairRow.{PairRow as One};
+    ghost use Rattle.pgr_table.specs.Pairs.{judged_pairs as verdict};
+
+    ghost Row = { One };
+
+    ghost rows = { λ table. table };
+
+    ghost judged = { verdict };
+
+    fn read(alloc: Global, bytes: &[u8]) -> Result<PairTable, TableRefused> {
+        read_combinations(alloc, bytes)
+    }
+}
+
+impl Growing for PairTable {
     ghost use Rattle.std.specs.Prelude.{map};
-    ghost use Rattle.pgr_table.specs.Kinds.{pair_kind};
-    ghost use Rattle.pgr_table.specs.Kept.{values_of_pair};
+    ghost use Rattle.pgr_table.specs.Pairs.{pair_kind, values_of_pair};
 
     ghost kind = { pair_kind };
 
     ghost rows = { map values_of_pair };
 
     fn kind() -> &'static [Rule] {
-        pair_rules()
+        &PAIRS
     }
 
     fn empty(alloc: Global) -> PairTable {
@@ -82,10 +131,18 @@ impl Table for PairTable {
     }
 
     fn add(&mut self, values: &[i64]) -> Result<(), NoMemory> {
-        let row = pair_row(values);
-        let Ok(()) = self.rows.push(row) else {
-            return Err(NoMemory);
-        };
+        self.rows.push(pair(values))?;
         Ok(())
+    }
+}
+
+/// The pair with these values.
+fn pair(values: &[i64]) -> PairRow
+    requires { IsRow pair_kind values.now }
+    ensures { result ≡ pair_of values.now }
+{
+    PairRow {
+        source: values[0],
+        target: values[1],
     }
 }

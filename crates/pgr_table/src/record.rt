@@ -8,16 +8,17 @@ ghost use Rattle.pgr_table.specs.Kept.{IsFault};
 use crate::column::Column;
 use crate::fault::{TableFault, TableRefused};
 use crate::found::Found;
+use crate::growing::Growing;
 use crate::kind::Check;
-use crate::table::Table;
 use csv::ByteRecord;
 use pgr_outside::NoMemory;
 
+/// The greatest number of rows.
 const MOST_ROWS: usize = 4_194_304;
 
-// Takes one more record into a table, and answers the sum of the table with it; or the fault of the record, and then the
-// table is as it was. `sum` is the sum of the table so far, and `values` are overwritten.
-pub(crate) fn add_record<T: Table>(
+/// Takes one more record into a table, and answers the sum of the table with it; or the fault of the record, and then the
+/// table is as it was. `sum` is the sum of the table so far, and `values` are overwritten.
+pub(crate) fn add_record<T: Growing>(
     table: &mut T,
     sum: u64,
     columns: &[Found],
@@ -58,7 +59,7 @@ pub(crate) fn add_record<T: Table>(
     Ok(sum)
 }
 
-// Puts the values of a record into `values`, up to the first column whose field isn't in its grammar, and answers that.
+/// Puts the values of a record into `values`, up to the first column whose field isn't in its grammar, and answers that.
 fn read_values(
     columns: &[Found],
     fields: &ByteRecord,
@@ -72,12 +73,12 @@ fn read_values(
         let Some(value) = column.value(fields) else {
             return Ok(Some(column.rule.column));
         };
-        values.push(value).map_err(|_| NoMemory)?;
+        values.push(value)?;
     }
     Ok(None)
 }
 
-// The sum with the values of one more row that are summed and aren't negative, or none where it is above 2^63 - 1.
+/// The sum with the values of one more row that are summed and aren't negative, or none where it is above 2^63 - 1.
 fn sum_with(sum: u64, columns: &[Found], values: &[i64]) -> Option<u64>
     requires small { sum ≤ greatest }
     requires whole { length values.now ≡ length columns.now }
@@ -92,7 +93,7 @@ fn sum_with(sum: u64, columns: &[Found], values: &[i64]) -> Option<u64>
     Some(grown)
 }
 
-// The sum with one more cost, which counts nothing where it is negative, or none where it is above 2^63 - 1.
+/// The sum with one more cost, which counts nothing where it is negative, or none where it is above 2^63 - 1.
 fn with_cost(sum: u64, cost: i64) -> Option<u64>
     ensures { SomeIff result (sum + counted cost ≤ greatest) (sum + counted cost) }
 {

@@ -8,8 +8,8 @@ use pgr_outside::NoMemory;
 use std::alloc::Global;
 use std::marker::Model;
 
-// The records of a text that are still to come, each a list of fields: commas between the fields, double quotes around
-// them where wanted, as many fields as there are, nothing trimmed.
+/// The records of a text that are still to come, each a list of fields: commas between the fields, double quotes around
+/// them where wanted, as many fields as there are, nothing trimmed.
 #[derive(Drop)]
 pub(crate) struct Records<'a> {
     reader: Reader<&'a [u8]>,
@@ -29,7 +29,7 @@ impl<'a> Model for Records<'a> {
 }
 
 impl<'a> Records<'a> {
-    // All records of the bytes.
+    /// All records of the bytes.
     pub(crate) fn new(alloc: Global, bytes: &'a [u8]) -> Records<'a>
         ensures { result ≡ records default_config (strip_bom bytes.now) }
     {
@@ -43,7 +43,7 @@ impl<'a> Records<'a> {
         }
     }
 
-    // Puts the next record into `fields`, and answers whether there was one. Once memory was wanting, none comes.
+    /// Puts the next record into `fields`, and answers whether there was one. Once out of memory, none comes.
     pub(crate) fn read(&mut self, fields: &mut ByteRecord) -> Result<bool, NoMemory>
         ensures found { IfOk result (λ found. OnTrue found (self.old ≡ fields_of fields.new ∷ self.new)) }
         ensures end { IfOk result (λ found. OnFalse found (self.old ≡ [])) }

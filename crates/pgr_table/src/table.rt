@@ -1,44 +1,24 @@
-ghost use Rattle.std.specs.Prelude.{◌≡◌, ◌+◌, ◌<◌, ◌≤◌, ℤ, List, [], ◌∷◌, ◌++◌, false, length, OnOk, OnErr};
-ghost use Rattle.pgr_table.specs.Rows.{most_rows, greatest};
-ghost use Rattle.pgr_table.specs.Judging.{is_repeat, sum_of};
-ghost use Rattle.pgr_table.specs.Kept.{IsRow};
-ghost use Rattle.pgr_table.specs.declared.kind.Rule.{Rule as OneRule};
+ghost use Rattle.std.specs.Prelude.{List, Result, ℕ};
+ghost use Rattle.pgr_table.specs.declared.fault.TableFault.{TableFault as Fault};
+ghost use Rattle.pgr_table.specs.Judging.{IsVerdictSeen};
 
-use crate::kind::Rule;
-use pgr_outside::NoMemory;
+use crate::fault::TableRefused;
 use std::alloc::Global;
 
-// A table of one kind that is being read: its columns, and how its rows are kept.
-pub(crate) trait Table: Drop {
-    // The columns of the kind.
-    ghost kind: { List OneRule };
+/// A table of one kind: how bytes are judged, and what contracts see of its rows.
+pub trait Table: Drop {
+    /// A row.
+    ghost Row: { Type 0 };
 
-    // The rows so far, each as its values in the order of the columns.
-    ghost rows: { Self → List (List ℤ) };
+    /// The rows of a table, in its order.
+    ghost rows: { Self → List Row };
 
-    // The columns of the kind, in the order of judging.
-    fn kind() -> &'static [Rule]
-        ensures { result.now ≡ kind };
+    /// The verdict on bytes: the rows that they are, or their first fault.
+    ghost judged: { List ℕ → Result (List Row) Fault };
 
-    // A table without rows.
-    fn empty(alloc: Global) -> Self
-        ensures { rows result ≡ [] };
-
-    // The number of rows.
-    fn count(&self) -> usize
-        ensures { result ≡ length (rows self.now) };
-
-    // Whether the id of a row stands before.
-    fn knows(&self, values: &[i64]) -> bool
-        requires { IsRow kind values.now }
-        ensures { result ≡ is_repeat kind (rows self.now) values.now };
-
-    // Puts a row behind the others. Where memory is wanting the table stays as it was.
-    fn add(&mut self, values: &[i64]) -> Result<(), NoMemory>
-        requires row { IsRow kind values.now }
-        requires few { length (rows self.old) < most_rows }
-        requires new { is_repeat kind (rows self.old) values.now ≡ false }
-        requires sum { sum_of kind (rows self.old ++ values.now ∷ []) ≤ greatest }
-        ensures ok { OnOk result (rows self.new ≡ rows self.old ++ values.now ∷ []) }
-        ensures err { OnErr result (rows self.new ≡ rows self.old) };
+    /// The table that the bytes are, or why they are none.
+    ///
+    /// `Fault` comes exactly where the bytes have one, and is the first. `Memory` may come at any bytes.
+    fn read(alloc: Global, bytes: &[u8]) -> Result<Self, TableRefused>
+        ensures { IsVerdictSeen rows result (judged bytes.now) };
 }

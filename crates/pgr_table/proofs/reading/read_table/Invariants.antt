@@ -7,10 +7,10 @@ use Rattle.pgr_table.proofs.reading.read_table.Given as goal
 -- the verdict on the bytes is that on the rows so far and the records that are left; the rows so far are few enough, and have this sum
 abbrev pub invariant-loop-table : goal.invariant-loop-table
 invariant-loop-table g l = record {
-  verdict : judged g.T.Table.kind l.fn.bytes ≡ verdict_behind l.columns.items l.width (g.T.Table.rows l.table) l.records;
-  kind : rules_of l.columns.items ≡ g.T.Table.kind;
-  few : length (g.T.Table.rows l.table) ≤ most_rows;
-  sum : l.sum ≡ sum_of g.T.Table.kind (g.T.Table.rows l.table);
+  verdict : judged g.T.Growing.kind l.fn.bytes ≡ verdict_behind l.columns.items l.width (g.T.Growing.rows l.table) l.records;
+  kind : rules_of l.columns.items ≡ g.T.Growing.kind;
+  few : length (g.T.Growing.rows l.table) ≤ most_rows;
+  sum : l.sum ≡ sum_of g.T.Growing.kind (g.T.Growing.rows l.table);
   small : l.sum ≤ greatest;
 }
 

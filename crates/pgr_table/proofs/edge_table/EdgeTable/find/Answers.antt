@@ -6,9 +6,9 @@ use Rattle.pgr_table.proofs.edge_table.EdgeTable.find.Goals as goal
 pub returns-clause-found : goal.returns-clause-found
 returns-clause-found c =
     let same = to_z-of_z {w = w64} {z = c.args.id} c.ranges.id in
-    rw (← c.self.view_is) (find-found c.args.id c.self.inside.rows.entries c.get_index_of.result c.self.invariant.ids (rw same at c.get_index_of.ensures.found) (rw same at c.get_index_of.ensures.value))
+    rw (← c.self.view_is) (find-found c.args.id c.self.inside.edges.entries c.get_index_of.result (rw same at c.get_index_of.ensures.index))
 
 pub returns-clause-absent : goal.returns-clause-absent
 returns-clause-absent c =
     let same = to_z-of_z {w = w64} {z = c.args.id} c.ranges.id in
-    rw (← c.self.view_is) (find-absent c.args.id c.self.inside.rows.entries c.get_index_of.result c.self.invariant.ids (rw same at c.get_index_of.ensures.found))
+    rw (← c.self.view_is) (find-absent c.args.id c.self.inside.edges.entries c.get_index_of.result (rw same at c.get_index_of.ensures.found))

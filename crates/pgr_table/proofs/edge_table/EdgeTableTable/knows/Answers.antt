@@ -1,6 +1,0 @@
-use Rattle.std.proofs.Common.{sym, ◌∙◌}
-use Rattle.pgr_table.proofs.EdgeFacts.{is_repeat-lookup}
-use Rattle.pgr_table.proofs.edge_table.EdgeTableTable.knows.Goals as goal
-
-pub returns : goal.returns
-returns c = rw (← c.self.view_is) (c.contains_key.ensures ∙ sym (is_repeat-lookup c.self.inside.rows.entries c.args.values.now c.self.invariant.ids c.requires))

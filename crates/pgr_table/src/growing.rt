@@ -1,0 +1,44 @@
+ghost use Rattle.std.specs.Prelude.{◌≡◌, ◌+◌, ◌<◌, ◌≤◌, ℤ, List, [], ◌∷◌, ◌++◌, false, length, OnOk, OnErr};
+ghost use Rattle.pgr_table.specs.Rows.{most_rows, greatest};
+ghost use Rattle.pgr_table.specs.Judging.{is_repeat, sum_of};
+ghost use Rattle.pgr_table.specs.Kept.{IsRow};
+ghost use Rattle.pgr_table.specs.declared.kind.Rule.{Rule as OneRule};
+
+use crate::kind::Rule;
+use pgr_outside::NoMemory;
+use std::alloc::Global;
+
+/// A table of one kind that is being read: its columns, and how its rows are kept.
+pub(crate) trait Growing: Drop {
+    /// The columns of the kind.
+    ghost kind: { List OneRule };
+
+    /// The rows so far, each as its values in the order of the columns.
+    ghost rows: { Self → List (List ℤ) };
+
+    /// The columns of the kind, in the order of judging.
+    fn kind() -> &'static [Rule]
+        ensures { result.now ≡ kind };
+
+    /// A table without rows.
+    fn empty(alloc: Global) -> Self
+        ensures { rows result ≡ [] };
+
+    /// The number of rows.
+    fn count(&self) -> usize
+        ensures { result ≡ length (rows self.now) };
+
+    /// Whether the id of a row stands before.
+    fn knows(&self, values: &[i64]) -> bool
+        requires { IsRow kind values.now }
+        ensures { result ≡ is_repeat kind (rows self.now) values.now };
+
+    /// Puts a row behind the others. Out of memory, the table stays as it was.
+    fn add(&mut self, values: &[i64]) -> Result<(), NoMemory>
+        requires row { IsRow kind values.now }
+        requires few { length (rows self.old) < most_rows }
+        requires new { is_repeat kind (rows self.old) values.now ≡ false }
+        requires sum { sum_of kind (rows self.old ++ values.now ∷ []) ≤ greatest }
+        ensures ok { OnOk result (rows self.new ≡ rows self.old ++ values.now ∷ []) }
+        ensures err { OnErr result (rows self.new ≡ rows self.old) };
+}
