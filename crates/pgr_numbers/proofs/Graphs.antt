@@ -10,7 +10,7 @@ use Rattle.pgr_walks.specs.RouteOrder.{IsLeast}
 use Rattle.pgr_walks.specs.Label.{LeadsTo, IsLabel, AtMost, label_of}
 use Rattle.pgr_walks.specs.Graph.{Fits}
 use Rattle.pgr_numbers.specs.Names.{AreNumbered, IsNumbered, id_at, named}
-use Rattle.pgr_numbers.proofs.Ends.{Contains-map, Contains-from_map}
+use Rattle.pgr_numbers.proofs.EndLemmas.{Contains-map, Contains-from_map}
 use Rattle.pgr_numbers.proofs.Order.{cost_of-named, hops_of-named}
 use Rattle.pgr_numbers.proofs.Walks.{walk_ends, IsWalk-named, numbered_walk, Fits-numbered, IsLeast-turned}
 

@@ -1,6 +1,7 @@
 pub mod Rising
-pub mod Ends
+pub mod EndLemmas
 pub mod Turning
 pub mod Order
 pub mod Walks
 pub mod Graphs
+mod Marks

@@ -13,7 +13,7 @@ use Rattle.pgr_walks.specs.RouteOrder.{route_cmp, IsLeast}
 use Rattle.pgr_walks.specs.Graph.{Fits}
 use Rattle.pgr_numbers.specs.Names.{AreNumbered, IsNumbered, id_at, named}
 use Rattle.pgr_numbers.specs.Numbering.{IsNumberedWalk}
-use Rattle.pgr_numbers.proofs.Ends.{Contains-map, Contains-from_map}
+use Rattle.pgr_numbers.proofs.EndLemmas.{Contains-map, Contains-from_map}
 use Rattle.pgr_numbers.proofs.Order.{id_at_one_to_one, named_one_to_one, map_one_to_one, route_cmp-named, cost_of-named}
 
 -- images of elements that differ differ, so a list without repeats has images without repeats

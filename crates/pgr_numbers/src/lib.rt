@@ -1,7 +1,8 @@
 //! Numbers are a rising one-to-one numbering of vertex ids, from 0.
 //!
 //! [`Names`] holds the distinct ends of some links, rising: the number of an id is its place there. Of links
-//! between ids [`Names::numbered`] makes the same links between numbers.
+//! between ids [`Names::numbered`] makes the same links between numbers. Where the ids are small, a list by id has the
+//! numbers, so that they are neither sorted nor searched.
 //! Proved: the names are exactly the ends, each once (`of`, clause `ends`), an id has a number exactly where
 //! it is a name (`number`, clause `held`), and numbering turns both ends of each link and nothing else
 //! (`numbered`). What numbering keeps is said by laws, functions that do nothing and whose contract is the
@@ -9,6 +10,7 @@
 //! links and for a graph whose links are exactly the numbered ones. Not proved: time.
 #![tactic(auto)]
 
+mod ends;
 mod graph_laws;
 mod laws;
 mod names;

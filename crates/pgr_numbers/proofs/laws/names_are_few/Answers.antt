@@ -1,5 +1,5 @@
 use Rattle.std.proofs.Common.{arith}
-use Rattle.pgr_numbers.proofs.Ends.{length_names}
+use Rattle.pgr_numbers.proofs.EndLemmas.{length_names}
 use Rattle.pgr_numbers.proofs.laws.names_are_few.Goals as goal
 
 pub returns-clause-twice : goal.returns-clause-twice
