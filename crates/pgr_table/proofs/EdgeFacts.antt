@@ -50,14 +50,16 @@ lookup-absent id (entry ∷ entries) h = by (int_eq id entry.0) refl (lookup-abs
 pub lookup-none : (id : ℤ) (entries : List (ℤ × Edge)) → All (λ row. row.id ≢ id) (rows_in entries) → lookup (int_eq id) entries ≡ None
 lookup-none id [] h = refl
 lookup-none id (entry ∷ entries) h =
-    by (int_eq id entry.0) refl (All-head (λ row. row.id ≢ id) (row_at entry) (rows_in entries) h) (lookup-none id entries (All-tail (λ row. row.id ≢ id) (row_at entry) (rows_in entries) h))
+    by (int_eq id entry.0) refl (All-head (λ row. row.id ≢ id) (row_at entry) (rows_in entries) h)
+    (lookup-none id entries (All-tail (λ row. row.id ≢ id) (row_at entry) (rows_in entries) h))
   where
     by : (t : Bool) → int_eq id entry.0 ≡ t → entry.0 ≢ id → lookup (int_eq id) entries ≡ None → (if t then Some entry.1 else lookup (int_eq id) entries) ≡ None
     by true e other rest = absurd (other (sym (int_eq-yes id entry.0 e)))
     by false e other rest = rest
 
 -- the row at a place whose key is the id
-id_at-place : (id : ℤ) (entries : List (ℤ × Edge)) (i : ℕ) → i < length (keys_of entries) → int_eq id (get_or (keys_of entries) i (pos 0)) ≡ true → option_map (λ row. row.id) (slice_get (rows_in entries) i) ≡ Some id
+id_at-place : (id : ℤ) (entries : List (ℤ × Edge)) (i : ℕ) → i < length (keys_of entries) → int_eq id (get_or (keys_of entries) i (pos 0)) ≡ true
+    → option_map (λ row. row.id) (slice_get (rows_in entries) i) ≡ Some id
 id_at-place id [] i below same = absurd (omega arith)
 id_at-place id (entry ∷ entries) zero below same = ap Some (sym (int_eq-yes id entry.0 same))
 id_at-place id (entry ∷ entries) (suc i) below same = id_at-place id entries i (omega arith) same
@@ -69,11 +71,13 @@ row-at_place (first ∷ entries) zero entry h = let same : first ≡ entry = cc 
 row-at_place (first ∷ entries) (suc i) entry h = row-at_place entries i entry h
 
 -- what `find` says of the first place with the id
-pub find-found : (id : ℤ) (entries : List (ℤ × Edge)) (result : Option ℕ) → result ≡ position (int_eq id) (keys_of entries) → IfSome result (λ i. option_map (λ row. row.id) (slice_get (rows_in entries) i) ≡ Some id)
+pub find-found : (id : ℤ) (entries : List (ℤ × Edge)) (result : Option ℕ) → result ≡ position (int_eq id) (keys_of entries)
+    → IfSome result (λ i. option_map (λ row. row.id) (slice_get (rows_in entries) i) ≡ Some id)
 find-found id entries None at = tt
 find-found id entries (Some i) at = let found = position-Some (int_eq id) (keys_of entries) i (pos 0) (sym at) in id_at-place id entries i found.0 found.1
 
-pub find-absent : (id : ℤ) (entries : List (ℤ × Edge)) (result : Option ℕ) → is_some result ≡ is_some (lookup (int_eq id) entries) → IsNone result ↔ All (λ row. row.id ≢ id) (rows_in entries)
+pub find-absent : (id : ℤ) (entries : List (ℤ × Edge)) (result : Option ℕ) → is_some result ≡ is_some (lookup (int_eq id) entries)
+    → IsNone result ↔ All (λ row. row.id ≢ id) (rows_in entries)
 find-absent id entries None some = (λ none. lookup-absent id entries (sym some), λ others. refl)
 find-absent id entries (Some i) some = (λ none. cc none, λ others. cc (some ∙ ap is_some (lookup-none id entries others)))
 
@@ -92,7 +96,8 @@ has_id-absent : (id : ℤ) (rows : List EdgeRow) → has_id edge_kind (map value
 has_id-absent id [] h = All-nil (λ row. row.id ≢ id)
 has_id-absent id (row ∷ rows) h = by (int_eq id row.id) refl h (has_id-absent id rows)
   where
-    by : (t : Bool) → int_eq id row.id ≡ t → (t || has_id edge_kind (map values_of_edge rows) id) ≡ false → (has_id edge_kind (map values_of_edge rows) id ≡ false → All (λ row. row.id ≢ id) rows) → All (λ row. row.id ≢ id) (row ∷ rows)
+    by : (t : Bool) → int_eq id row.id ≡ t → (t || has_id edge_kind (map values_of_edge rows) id) ≡ false
+        → (has_id edge_kind (map values_of_edge rows) id ≡ false → All (λ row. row.id ≢ id) rows) → All (λ row. row.id ≢ id) (row ∷ rows)
     by true e n rest = cc n
     by false e n rest = All-cons (λ row. row.id ≢ id) row rows (λ q. int_eq-no id row.id e (sym q)) (rest n)
 
@@ -133,7 +138,8 @@ makes_edge (i ∷ s ∷ t ∷ c ∷ r ∷ []) h = record {
 makes_edge (i ∷ s ∷ t ∷ c ∷ r ∷ v ∷ more) h = absurd h.1.1.1.1.1
 
 -- the id of a row stood before where a look-up finds it
-pub is_repeat-lookup : (entries : List (ℤ × Edge)) (values : List ℤ) → IsRow edge_kind values → is_repeat edge_kind (map values_of_edge (rows_in entries)) values ≡ is_some (lookup (int_eq (value_of_column values 0)) entries)
+pub is_repeat-lookup : (entries : List (ℤ × Edge)) (values : List ℤ) → IsRow edge_kind values
+    → is_repeat edge_kind (map values_of_edge (rows_in entries)) values ≡ is_some (lookup (int_eq (value_of_column values 0)) entries)
 is_repeat-lookup entries values row = rw (makes_edge values row).id (sym (lookup-has_id (value_of_column values 0) entries))
 
 -- the sum of the values of edges is that of their costs
@@ -142,23 +148,27 @@ sum_of_row-edge row = omega arith
 
 sum_of-edges : (rows : List EdgeRow) → sum_of edge_kind (map values_of_edge rows) ≡ sum_of_costs rows
 sum_of-edges [] = refl
-sum_of-edges (row ∷ rows) = sum_by-cons (sum_of_row edge_kind) (values_of_edge row) (map values_of_edge rows) ∙ (rw (sum_of_row-edge row, sum_of-edges rows) refl ∙ sym (sum_by-cons costs_of row rows))
+sum_of-edges (row ∷ rows) = sum_by-cons (sum_of_row edge_kind) (values_of_edge row) (map values_of_edge rows) ∙ (rw (sum_of_row-edge row, sum_of-edges rows)
+    refl ∙ sym (sum_by-cons costs_of row rows))
 
 -- a list without repeats and one more element that is none of its
 IsWithoutRepeats-push : (xs : List ℤ) (x : ℤ) → IsWithoutRepeats xs → All (λ y. y ≢ x) xs → IsWithoutRepeats (xs ++ x ∷ [])
 IsWithoutRepeats-push [] x once others i j below within = absurd (omega arith)
 IsWithoutRepeats-push (y ∷ xs) x once others i zero below within = absurd (omega arith)
-IsWithoutRepeats-push (y ∷ xs) x once others zero (suc j) below within = λ e. apart xs j (λ k h. once zero (suc k) (omega arith) (omega arith)) (All-head (λ z. z ≢ x) y xs others) (omega arith) (sym e)
+IsWithoutRepeats-push (y ∷ xs) x once others zero (suc j) below within = λ e. apart xs j (λ k h. once zero (suc k) (omega arith) (omega arith))
+    (All-head (λ z. z ≢ x) y xs others) (omega arith) (sym e)
   where
     apart : (zs : List ℤ) (j : ℕ) → ((k : ℕ) → k < length zs → Some y ≢ slice_get zs k) → y ≢ x → j < length (zs ++ x ∷ []) → slice_get (zs ++ x ∷ []) j ≢ Some y
     apart [] zero once other h e = other (cc e)
     apart [] (suc j) once other h e = absurd (omega arith)
     apart (z ∷ zs) zero once other h e = once zero (omega arith) (sym e)
     apart (z ∷ zs) (suc j) once other h e = apart zs j (λ k below. once (suc k) (omega arith)) other (omega arith) e
-IsWithoutRepeats-push (y ∷ xs) x once others (suc i) (suc j) below within = IsWithoutRepeats-push xs x (λ a b less inside. once (suc a) (suc b) (omega arith) (omega arith)) (All-tail (λ z. z ≢ x) y xs others) i j (omega arith) (omega arith)
+IsWithoutRepeats-push (y ∷ xs) x once others (suc i) (suc j) below within = IsWithoutRepeats-push xs x (λ a b less inside. once (suc a) (suc b) (omega arith)
+    (omega arith)) (All-tail (λ z. z ≢ x) y xs others) i j (omega arith) (omega arith)
 
 -- one more edge with a new id is put behind the others
-pub insert_entry-edge : {S : Type 0} (kept : IndexMap ℤ Edge S) (values : List ℤ) (edge : Edge) → IsRow edge_kind values → is_repeat edge_kind (map values_of_edge (rows_in kept.entries)) values ≡ false
+pub insert_entry-edge : {S : Type 0} (kept : IndexMap ℤ Edge S) (values : List ℤ) (edge : Edge) → IsRow edge_kind values
+    → is_repeat edge_kind (map values_of_edge (rows_in kept.entries)) values ≡ false
     → insert_entry int_eq kept.entries (to_z w64 (of_z w64 (value_of_column values 0))) edge ≡ kept.entries ++ (value_of_column values 0, edge) ∷ []
 insert_entry-edge kept values edge row new =
     let makes = makes_edge values row in
@@ -171,10 +181,12 @@ insert_entry-edge kept values edge row new =
     none_from (Some edge) h = cc h
 
 -- the rows with one more
-pub rows_in-push : (entries : List (ℤ × Edge)) (values : List ℤ) (edge : Edge) → Keeps values edge → rows_in (entries ++ (value_of_column values 0, edge) ∷ []) ≡ rows_in entries ++ edge_of values ∷ []
+pub rows_in-push : (entries : List (ℤ × Edge)) (values : List ℤ) (edge : Edge) → Keeps values edge
+    → rows_in (entries ++ (value_of_column values 0, edge) ∷ []) ≡ rows_in entries ++ edge_of values ∷ []
 rows_in-push entries values edge keeps = map-append row_at entries ((value_of_column values 0, edge) ∷ []) ∙ ap (λ (row : EdgeRow). rows_in entries ++ row ∷ []) keeps.row
 
-pub AreAccepted-push : (rows : List EdgeRow) (values : List ℤ) → AreAccepted rows → IsRow edge_kind values → length rows < most_rows → is_repeat edge_kind (map values_of_edge rows) values ≡ false
+pub AreAccepted-push : (rows : List EdgeRow) (values : List ℤ) → AreAccepted rows → IsRow edge_kind values → length rows < most_rows
+    → is_repeat edge_kind (map values_of_edge rows) values ≡ false
     → sum_of edge_kind (map values_of_edge rows ++ values ∷ []) ≤ greatest → AreAccepted (rows ++ edge_of values ∷ [])
 AreAccepted-push rows values accepted row few new sum =
     let makes = makes_edge values row in
@@ -182,7 +194,8 @@ AreAccepted-push rows values accepted row few new sum =
     let others = has_id-absent (value_of_column values 0) rows (sym (rw makes.id refl) ∙ new) in
     record {
       ids = All-push HasIds rows edge accepted.ids makes.ids;
-      distinct = rw (map-append (λ (r : EdgeRow). r.id) rows (edge ∷ [])) (IsWithoutRepeats-push (map (λ (r : EdgeRow). r.id) rows) (value_of_column values 0) accepted.distinct (All-map (λ id. id ≢ value_of_column values 0) (λ (r : EdgeRow). r.id) rows others));
+      distinct = rw (map-append (λ (r : EdgeRow). r.id) rows (edge ∷ [])) (IsWithoutRepeats-push (map (λ (r : EdgeRow). r.id) rows) (value_of_column values 0)
+          accepted.distinct (All-map (λ id. id ≢ value_of_column values 0) (λ (r : EdgeRow). r.id) rows others));
       few = omega (arith, few, length-append rows (edge ∷ []));
       sum = rw (← sum_of-edges (rows ++ edge ∷ []), map-append values_of_edge rows (edge ∷ []), makes.values_are) sum;
     }

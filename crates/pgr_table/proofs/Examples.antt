@@ -69,7 +69,8 @@ blank_in_a_name : edges (four (codes "id ") (codes "source") (codes "target") (c
 blank_in_a_name = refl
 
 -- other columns are ignored, and may stand twice
-ignored_twice : edges ((codes "name" ∷ codes "name" ∷ short) ∷ (codes "x" ∷ [] ∷ four (codes "1") (codes "1") (codes "2") (codes "3")) ∷ []) ≡ Ok (row 1 1 2 (pos 3) (negsuc 0) ∷ [])
+ignored_twice : edges ((codes "name" ∷ codes "name" ∷ short) ∷ (codes "x" ∷ [] ∷ four (codes "1") (codes "1") (codes "2") (codes "3")) ∷ []) ≡ Ok
+    (row 1 1 2 (pos 3) (negsuc 0) ∷ [])
 ignored_twice = refl
 
 -- columns in another order, as an export may have them, an empty reverse cost, and whole numbers with zeros
@@ -106,25 +107,31 @@ first_of_two : edges (five (codes "cost") (codes "reverse_cost") (codes "target"
 first_of_two = refl
 
 -- an id that stood before; a bad field comes before it in the same record, and behind it in a later one
-same_id : edges (whole ∷ five (codes "1") (codes "1") (codes "2") (codes "3") (codes "3") ∷ five (codes "01") (codes "2") (codes "3") (codes "4") (codes "4") ∷ []) ≡ Err (fault.DuplicateId 3)
+same_id : edges (whole ∷ five (codes "1") (codes "1") (codes "2") (codes "3") (codes "3") ∷ five (codes "01") (codes "2") (codes "3") (codes "4") (codes "4") ∷
+    []) ≡ Err (fault.DuplicateId 3)
 same_id = refl
 
-same_id_and_bad : edges (whole ∷ five (codes "1") (codes "1") (codes "2") (codes "3") (codes "3") ∷ five (codes "1") (codes "2") (codes "3") (codes "4") (codes "x") ∷ []) ≡ Err (fault.BadField 3 column.ReverseCost)
+same_id_and_bad : edges (whole ∷ five (codes "1") (codes "1") (codes "2") (codes "3") (codes "3") ∷ five (codes "1") (codes "2") (codes "3") (codes "4")
+    (codes "x") ∷ []) ≡ Err (fault.BadField 3 column.ReverseCost)
 same_id_and_bad = refl
 
-same_id_then_bad : edges (whole ∷ five (codes "1") (codes "1") (codes "2") (codes "3") (codes "3") ∷ five (codes "1") (codes "2") (codes "3") (codes "4") (codes "4") ∷ five (codes "x") (codes "2") (codes "3") (codes "4") (codes "4") ∷ []) ≡ Err (fault.DuplicateId 3)
+same_id_then_bad : edges (whole ∷ five (codes "1") (codes "1") (codes "2") (codes "3") (codes "3") ∷ five (codes "1") (codes "2") (codes "3") (codes "4")
+    (codes "4") ∷ five (codes "x") (codes "2") (codes "3") (codes "4") (codes "4") ∷ []) ≡ Err (fault.DuplicateId 3)
 same_id_then_bad = refl
 
 -- the sum at the limit, and one above it, by both columns; what is negative counts nothing
-at_the_limit : edges (whole ∷ five (codes "1") (codes "1") (codes "2") (codes "9223372036854775800") (codes "-9") ∷ five (codes "2") (codes "1") (codes "2") (codes "3") (codes "4") ∷ [])
+at_the_limit : edges (whole ∷ five (codes "1") (codes "1") (codes "2") (codes "9223372036854775800") (codes "-9") ∷ five (codes "2") (codes "1") (codes "2")
+    (codes "3") (codes "4") ∷ [])
     ≡ Ok (row 1 1 2 (pos 9223372036854775800) (negsuc 8) ∷ row 2 1 2 (pos 3) (pos 4) ∷ [])
 at_the_limit = refl
 
-one_above : edges (whole ∷ five (codes "1") (codes "1") (codes "2") (codes "9223372036854775800") (codes "-9") ∷ five (codes "2") (codes "1") (codes "2") (codes "3") (codes "5") ∷ []) ≡ Err (fault.CostSum 3)
+one_above : edges (whole ∷ five (codes "1") (codes "1") (codes "2") (codes "9223372036854775800") (codes "-9") ∷ five (codes "2") (codes "1") (codes "2")
+    (codes "3") (codes "5") ∷ []) ≡ Err (fault.CostSum 3)
 one_above = refl
 
 -- an id that stood before comes before the sum
-same_id_above : edges (short ∷ four (codes "1") (codes "1") (codes "2") (codes "9223372036854775807") ∷ four (codes "1") (codes "1") (codes "2") (codes "1") ∷ []) ≡ Err (fault.DuplicateId 3)
+same_id_above : edges (short ∷ four (codes "1") (codes "1") (codes "2") (codes "9223372036854775807") ∷ four (codes "1") (codes "1") (codes "2") (codes "1") ∷
+    []) ≡ Err (fault.DuplicateId 3)
 same_id_above = refl
 
 -- combinations: negative names, and a pair twice

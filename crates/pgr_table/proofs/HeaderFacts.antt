@@ -45,22 +45,29 @@ abbrev pub AreFound : List ℕ → List (List ℕ) → Option ℕ → ℕ → Ty
 AreFound name header found place = places_from 0 name header ≡ option_to_list found ++ places_from place name (drop place header)
 
 -- one more place
-pub found-first : (name : List ℕ) (header : List (List ℕ)) (found : Option ℕ) (place : ℕ) → place < length header → is_field header place name ≡ true → is_some found ≡ false → AreFound name header found place → AreFound name header (Some place) (place + 1)
-found-first name header None place h e n found = let one : suc place ≡ place + 1 = omega arith in found ∙ (places-named name header place place h e ∙ ap (λ (n : ℕ). place ∷ places_from (place + 1) name (drop n header)) one)
+pub found-first : (name : List ℕ) (header : List (List ℕ)) (found : Option ℕ) (place : ℕ) → place < length header → is_field header place name ≡ true
+    → is_some found ≡ false → AreFound name header found place → AreFound name header (Some place) (place + 1)
+found-first name header None place h e n found = let one : suc place ≡ place + 1 = omega arith in found ∙ (places-named name header place place h e ∙ ap
+    (λ (n : ℕ). place ∷ places_from (place + 1) name (drop n header)) one)
 found-first name header (Some first) place h e n found = cc n
 
-pub found-other : (name : List ℕ) (header : List (List ℕ)) (found : Option ℕ) (place : ℕ) → place < length header → is_field header place name ≡ false → AreFound name header found place → AreFound name header found (place + 1)
-found-other name header found place h e so_far = let one : suc place ≡ place + 1 = omega arith in so_far ∙ (ap (λ (l : List ℕ). option_to_list found ++ l) (places-other name header place place h e ∙ ap (λ (n : ℕ). places_from (place + 1) name (drop n header)) one))
+pub found-other : (name : List ℕ) (header : List (List ℕ)) (found : Option ℕ) (place : ℕ) → place < length header → is_field header place name ≡ false
+    → AreFound name header found place → AreFound name header found (place + 1)
+found-other name header found place h e so_far = let one : suc place ≡ place + 1 = omega arith in so_far ∙ (ap (λ (l : List ℕ). option_to_list found ++ l)
+    (places-other name header place place h e ∙ ap (λ (n : ℕ). places_from (place + 1) name (drop n header)) one))
 
 -- a second place is a fault
-pub found-twice : (rule : Rule) (name : List ℕ) (header : List (List ℕ)) (found : Option ℕ) (place : ℕ) → place < length header → is_field header place name ≡ true → AreFound name header found place → is_some found ≡ true
+pub found-twice : (rule : Rule) (name : List ℕ) (header : List (List ℕ)) (found : Option ℕ) (place : ℕ) → place < length header
+    → is_field header place name ≡ true → AreFound name header found place → is_some found ≡ true
     → fault_at rule (places_from 0 name header) ≡ Some (RepeatedColumn rule.column)
 found-twice rule name header None place h e so_far there = cc there
 found-twice rule name header (Some first) place h e so_far there = ap (fault_at rule) (so_far ∙ ap (λ (l : List ℕ). first ∷ l) (places-named name header place place h e))
 
 -- all places
-found-all : (name : List ℕ) (header : List (List ℕ)) (found : Option ℕ) (place : ℕ) → place ≡ length header → AreFound name header found place → places_from 0 name header ≡ option_to_list found
-found-all name header found place e so_far = so_far ∙ (ap (λ (l : List (List ℕ)). option_to_list found ++ places_from place name l) (drop-all header place e) ∙ append-nil (option_to_list found))
+found-all : (name : List ℕ) (header : List (List ℕ)) (found : Option ℕ) (place : ℕ) → place ≡ length header → AreFound name header found place
+    → places_from 0 name header ≡ option_to_list found
+found-all name header found place e so_far = so_far ∙ (ap (λ (l : List (List ℕ)). option_to_list found ++ places_from place name l) (drop-all header place e) ∙
+    append-nil (option_to_list found))
   where
     drop-all : (l : List (List ℕ)) (n : ℕ) → n ≡ length l → drop n l ≡ []
     drop-all [] zero h = refl
@@ -68,19 +75,22 @@ found-all name header found place e so_far = so_far ∙ (ap (λ (l : List (List 
     drop-all (x ∷ xs) zero h = absurd (omega arith)
     drop-all (x ∷ xs) (suc n) h = drop-all xs n (omega arith)
 
-pub found-place : (name : List ℕ) (header : List (List ℕ)) (found : Option ℕ) (place : ℕ) → place ≡ length header → AreFound name header found place → slice_get (places_from 0 name header) 0 ≡ found
+pub found-place : (name : List ℕ) (header : List (List ℕ)) (found : Option ℕ) (place : ℕ) → place ≡ length header → AreFound name header found place
+    → slice_get (places_from 0 name header) 0 ≡ found
 found-place name header found place e so_far = ap (λ (l : List ℕ). slice_get l 0) (found-all name header found place e so_far) ∙ by found
   where
     by : (o : Option ℕ) → slice_get (option_to_list o) 0 ≡ o
     by None = refl
     by (Some first) = refl
 
-pub found-missing : (rule : Rule) (name : List ℕ) (header : List (List ℕ)) (found : Option ℕ) (place : ℕ) → place ≡ length header → AreFound name header found place → is_none found ≡ true → is_none rule.absent ≡ true
+pub found-missing : (rule : Rule) (name : List ℕ) (header : List (List ℕ)) (found : Option ℕ) (place : ℕ) → place ≡ length header
+    → AreFound name header found place → is_none found ≡ true → is_none rule.absent ≡ true
     → fault_at rule (places_from 0 name header) ≡ Some (MissingColumn rule.column)
 found-missing rule name header None place e so_far n a = ap (fault_at rule) (found-all name header None place e so_far) ∙ rw a refl
 found-missing rule name header (Some first) place e so_far n a = cc n
 
-pub found-good : (rule : Rule) (name : List ℕ) (header : List (List ℕ)) (found : Option ℕ) (place : ℕ) → place ≡ length header → AreFound name header found place → (is_none found ≡ true → is_none rule.absent ≡ false)
+pub found-good : (rule : Rule) (name : List ℕ) (header : List (List ℕ)) (found : Option ℕ) (place : ℕ) → place ≡ length header
+    → AreFound name header found place → (is_none found ≡ true → is_none rule.absent ≡ false)
     → fault_at rule (places_from 0 name header) ≡ None
 found-good rule name header None place e so_far a = ap (fault_at rule) (found-all name header None place e so_far) ∙ rw (a refl) refl
 found-good rule name header (Some first) place e so_far a = ap (fault_at rule) (found-all name header (Some first) place e so_far)

@@ -96,17 +96,22 @@ leaves cfg s fields field [] read = by (ends_at_end s) refl
     by : (b : Bool) → ends_at_end s ≡ b → (if b then Some (fields ++ (field ∷ []), st.StartRecord, []) else None) ≡ Some read → Leaves s [] read
     by true e h = carry (fields ++ (field ∷ []), st.StartRecord, []) read (option_value h) (record { no_more = omega arith; fewer = λ n. cc; between = refl })
     by false e h = cc
-leaves cfg s fields field (c ∷ rest) read = by (is_end (step cfg s c).1) refl (leaves cfg (step cfg s c).0 (fields_after (step cfg s c).1 fields field) (field_after (step cfg s c).1 c field) rest read)
+leaves cfg s fields field (c ∷ rest) read = by (is_end (step cfg s c).1) refl (leaves cfg (step cfg s c).0 (fields_after (step cfg s c).1 fields field)
+    (field_after (step cfg s c).1 c field) rest read)
   where
     by : (b : Bool) → is_end (step cfg s c).1 ≡ b
-        → (next_record cfg (step cfg s c).0 (fields_after (step cfg s c).1 fields field) (field_after (step cfg s c).1 c field) rest ≡ Some read → Leaves (step cfg s c).0 rest read)
-        → (if b then Some (fields_after (step cfg s c).1 fields field, (step cfg s c).0, rest) else next_record cfg (step cfg s c).0 (fields_after (step cfg s c).1 fields field) (field_after (step cfg s c).1 c field) rest) ≡ Some read
+        → (next_record cfg (step cfg s c).0 (fields_after (step cfg s c).1 fields field) (field_after (step cfg s c).1 c field) rest ≡ Some read → Leaves
+        (step cfg s c).0 rest read)
+        → (if b then Some (fields_after (step cfg s c).1 fields field, (step cfg s c).0, rest) else next_record cfg (step cfg s c).0
+        (fields_after (step cfg s c).1 fields field) (field_after (step cfg s c).1 c field) rest) ≡ Some read
         → Leaves s (c ∷ rest) read
-    by true e more h = carry (fields_after (step cfg s c).1 fields field, (step cfg s c).0, rest) read (option_value h) (record { no_more = omega arith; fewer = λ _. omega arith; between = step-between cfg s c e })
+    by true e more h = carry (fields_after (step cfg s c).1 fields field, (step cfg s c).0, rest) read (option_value h)
+        (record { no_more = omega arith; fewer = λ _. omega arith; between = step-between cfg s c e })
     by false e more h = let l = more h in record { no_more = omega (arith, l.no_more); fewer = λ _. omega (arith, l.no_more); between = l.between }
 
 -- turns enough to reach all records reach the same ones
-records_from-enough : (cfg : Config) (n m : ℕ) (s : State) (bytes : List ℕ) → ends_at_end s ≡ false → length bytes < n → length bytes < m → records_from cfg n s bytes ≡ records_from cfg m s bytes
+records_from-enough : (cfg : Config) (n m : ℕ) (s : State) (bytes : List ℕ) → ends_at_end s ≡ false → length bytes < n → length bytes < m
+    → records_from cfg n s bytes ≡ records_from cfg m s bytes
 unfolding records_from
 records_from-enough cfg zero m s bytes between h k = absurd (omega arith)
 records_from-enough cfg (suc n) zero s bytes between h k = absurd (omega arith)
@@ -128,7 +133,8 @@ unfolding records_from
 records_of-next s bytes read between e =
     let l = leaves default_config s [] [] bytes read e in
     let fewer : length read.2 < length bytes = l.fewer between in
-    rw (add-one (length bytes), e) (ap (λ rest. read.0 ∷ rest) (records_from-enough default_config (length bytes) (length read.2 + 1) read.1 read.2 l.between (omega arith) (omega arith)))
+    rw (add-one (length bytes), e) (ap (λ rest. read.0 ∷ rest) (records_from-enough default_config (length bytes) (length read.2 + 1) read.1 read.2 l.between
+    (omega arith) (omega arith)))
 
 -- none, where there is no next one
 pub records_of-none : (s : State) (bytes : List ℕ) → next_record default_config s [] [] bytes ≡ None → records_of s (Some bytes) ≡ []
@@ -136,17 +142,20 @@ unfolding records_from
 records_of-none s bytes e = rw (add-one (length bytes), e) refl
 
 -- what a read that found a record, or none, says of the records left
-reads-found : (s t : State) (before after : Option (List ℕ)) (fields : List (List ℕ)) → ends_at_end s ≡ false → IsSome before → ReadsNext default_config s before after true fields t
+reads-found : (s t : State) (before after : Option (List ℕ)) (fields : List (List ℕ)) → ends_at_end s ≡ false → IsSome before
+    → ReadsNext default_config s before after true fields t
     → (records_of s before ≡ fields ∷ records_of t after) × IsSome after × (ends_at_end t ≡ false)
 reads-found s t None after fields between known r = cc known
 reads-found s t (Some xs) None fields between known r = absurd r
 reads-found s t (Some xs) (Some ys) fields between known r = by (next_record default_config s [] [] xs) refl r
   where
-    by : (o : Option Read) → next_record default_config s [] [] xs ≡ o → NextIs o true fields t ys → (records_of s (Some xs) ≡ fields ∷ records_of t (Some ys)) × IsSome (Some ys) × (ends_at_end t ≡ false)
+    by : (o : Option Read) → next_record default_config s [] [] xs ≡ o → NextIs o true fields t ys
+        → (records_of s (Some xs) ≡ fields ∷ records_of t (Some ys)) × IsSome (Some ys) × (ends_at_end t ≡ false)
     by None e n = cc n
     by (Some read) e n = rw (n.1, n.2, n.3) (records_of-next s xs read between e, refl, (leaves default_config s [] [] xs read e).between)
 
-reads-none : (s t : State) (before after : Option (List ℕ)) (fields : List (List ℕ)) → IsSome before → ReadsNext default_config s before after false fields t → records_of s before ≡ []
+reads-none : (s t : State) (before after : Option (List ℕ)) (fields : List (List ℕ)) → IsSome before → ReadsNext default_config s before after false fields t
+    → records_of s before ≡ []
 reads-none s t None after fields known r = cc
 reads-none s t (Some xs) None fields known r = absurd r
 reads-none s t (Some xs) (Some ys) fields known r = by (next_record default_config s [] [] xs) refl r
@@ -156,7 +165,8 @@ reads-none s t (Some xs) (Some ys) fields known r = by (next_record default_conf
     by (Some read) e n = cc n.0
 
 -- past its start, a reader reads from what is pending
-source-pending : {R : Type 0} (remaining : R → Option (List ℕ)) (reader : Reader R) → reader.bom_checked ≡ true → source_of remaining reader ≡ pending_of (remaining reader.rdr) reader
+source-pending : {R : Type 0} (remaining : R → Option (List ℕ)) (reader : Reader R) → reader.bom_checked ≡ true
+    → source_of remaining reader ≡ pending_of (remaining reader.rdr) reader
 source-pending remaining reader checked = rw checked refl
 
 -- a read that found a record takes it off the records left
@@ -180,7 +190,8 @@ left-found remaining old new fields going read first flexible =
 -- a read that found none shows that there were none
 left-none : {R : Type 0} (remaining : R → Option (List ℕ)) (old new : Reader R) (fields : List (List ℕ))
     → IsGoing remaining old → ReadRecord remaining old new false fields → records_left remaining old ≡ []
-left-none remaining old new fields going read = reads-none old.state new.state (source_of remaining old) (pending_of (remaining new.rdr) new) fields going.known (rw going.config at read.0)
+left-none remaining old new fields going read = reads-none old.state new.state (source_of remaining old) (pending_of (remaining new.rdr) new) fields
+    going.known (rw going.config at read.0)
 
 -- what a read does, by whether it found a record, to one who sees the records left as a list
 pub record Reads {R : Type 0} (remaining : R → Option (List ℕ)) (before : List (List (List ℕ))) (new : Reader R) (found : Bool) (fields : List (List ℕ)) : Type 0 where
@@ -194,5 +205,6 @@ pub reads : {R : Type 0} (remaining : R → Option (List ℕ)) (before : List (L
     → (IsGoing remaining old → ReadRecord remaining old new found fields × (took_first new ≡ true) × (is_flexible new ≡ is_flexible old))
     → Reads remaining before new found fields
 reads remaining before true old new found fields e seen going read = cc e
-reads remaining before false old new true fields e seen going read = let l = left-found remaining old new fields going (read going).0 (read going).1 (read going).2 in record { more = sym seen ∙ l.0; end = tt; goes_on = l.1 }
+reads remaining before false old new true fields e seen going read = let l = left-found remaining old new fields going (read going).0 (read going).1
+    (read going).2 in record { more = sym seen ∙ l.0; end = tt; goes_on = l.1 }
 reads remaining before false old new false fields e seen going read = record { more = tt; end = sym seen ∙ left-none remaining old new fields going (read going).0; goes_on = tt }

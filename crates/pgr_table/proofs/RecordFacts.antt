@@ -14,7 +14,7 @@ use Rattle.pgr_table.specs.declared.kind.Check.TheVariants.{Free, Distinct, Summ
 use Rattle.pgr_table.specs.Kinds.{value_of, is_summed}
 use Rattle.pgr_table.specs.Rows.{counted, most_rows, greatest}
 use Rattle.pgr_table.specs.Kept.{IsValue, IsRow}
-use Rattle.pgr_table.specs.Judging.{value_at, value_in, bad_column, row_of, rules_of, is_repeat, sum_of, sum_of_row, record_fault, fault_of}
+use Rattle.pgr_table.specs.Judging.{value_at, value_in, bad_column, row_of, rules_of, is_repeat, sum_of, sum_of_row, record_fault, fault_of_record}
 
 -- the value of a column is one that it may have
 value_at-value : (rule : Rule) (fields : List (List ℕ)) (place : Option ℕ) (value : ℤ) → value_at rule fields place ≡ Some value → IsValue rule value
@@ -30,7 +30,9 @@ pub row_of-row : (columns : List Found) (fields : List (List ℕ)) → bad_colum
 row_of-row [] fields h = tt
 row_of-row (column ∷ columns) fields h = by (value_in fields column) refl h (row_of-row columns fields)
   where
-    by : (o : Option ℤ) → value_in fields column ≡ o → bad_column (column ∷ columns) fields ≡ None → (bad_column columns fields ≡ None → IsRow (rules_of columns) (row_of columns fields)) → IsRow (rules_of (column ∷ columns)) (row_of (column ∷ columns) fields)
+    by : (o : Option ℤ) → value_in fields column ≡ o → bad_column (column ∷ columns) fields ≡ None
+        → (bad_column columns fields ≡ None → IsRow (rules_of columns) (row_of columns fields))
+        → IsRow (rules_of (column ∷ columns)) (row_of (column ∷ columns) fields)
     by None e n more = let bad : bad_column (column ∷ columns) fields ≡ Some column.rule.column = rw e refl in cc (sym bad ∙ n)
     by (Some value) e n more = let rest : bad_column columns fields ≡ None = rw e at n in rw e (value_at-value column.rule fields column.place value e, more rest)
 
@@ -64,7 +66,8 @@ left-summed (column ∷ columns) [] place d h e s = absurd (omega arith)
 left-summed (column ∷ columns) (value ∷ row) zero d h e s = summed-head (rules_of columns) row column.rule value s
 left-summed (column ∷ columns) (value ∷ row) (suc place) d h e s = left-summed columns row place d (omega arith) (omega arith) s
 
-left-free : (columns : List Found) (row : List ℤ) (place : ℕ) (d : Found) → place < length columns → length row ≡ length columns → ((get_or columns place d).rule.check ≡ Summed → ⊥)
+left-free : (columns : List Found) (row : List ℤ) (place : ℕ) (d : Found) → place < length columns → length row ≡ length columns
+    → ((get_or columns place d).rule.check ≡ Summed → ⊥)
     → sum_of_row (rules_of (drop place columns)) (drop place row) ≡ sum_of_row (rules_of (drop (suc place) columns)) (drop (suc place) row)
 left-free [] row place d h e s = absurd (omega arith)
 left-free (column ∷ columns) [] place d h e s = absurd (omega arith)
@@ -72,12 +75,16 @@ left-free (column ∷ columns) (value ∷ row) zero d h e s = free-head (rules_o
 left-free (column ∷ columns) (value ∷ row) (suc place) d h e s = left-free columns row place d (omega arith) (omega arith) s
 
 -- the sum so far and what is left of the row, after one more column
-pub sum-summed : (columns : List Found) (row : List ℤ) (place : ℕ) (d : Found) (all grown next : ℕ) → place < length columns → length row ≡ length columns → (get_or columns place d).rule.check ≡ Summed
-    → next ≡ grown + counted (get_or row place (pos 0)) → all ≡ grown + sum_of_row (rules_of (drop place columns)) (drop place row) → all ≡ next + sum_of_row (rules_of (drop (place + 1) columns)) (drop (place + 1) row)
+pub sum-summed : (columns : List Found) (row : List ℤ) (place : ℕ) (d : Found) (all grown next : ℕ) → place < length columns → length row ≡ length columns
+    → (get_or columns place d).rule.check ≡ Summed
+    → next ≡ grown + counted (get_or row place (pos 0)) → all ≡ grown + sum_of_row (rules_of (drop place columns)) (drop place row)
+    → all ≡ next + sum_of_row (rules_of (drop (place + 1) columns)) (drop (place + 1) row)
 sum-summed columns row place d all grown next h e s n a = rw add-one (omega (arith, left-summed columns row place d h e s))
 
-pub sum-free : (columns : List Found) (row : List ℤ) (place : ℕ) (d : Found) (all grown next : ℕ) → place < length columns → length row ≡ length columns → ((get_or columns place d).rule.check ≡ Summed → ⊥)
-    → next ≡ grown → all ≡ grown + sum_of_row (rules_of (drop place columns)) (drop place row) → all ≡ next + sum_of_row (rules_of (drop (place + 1) columns)) (drop (place + 1) row)
+pub sum-free : (columns : List Found) (row : List ℤ) (place : ℕ) (d : Found) (all grown next : ℕ) → place < length columns → length row ≡ length columns
+    → ((get_or columns place d).rule.check ≡ Summed → ⊥)
+    → next ≡ grown → all ≡ grown + sum_of_row (rules_of (drop place columns)) (drop place row)
+    → all ≡ next + sum_of_row (rules_of (drop (place + 1) columns)) (drop (place + 1) row)
 sum-free columns row place d all grown next h e s n a = rw add-one (omega (arith, left-free columns row place d h e s))
 
 -- the sum of rows and one more
@@ -85,7 +92,8 @@ pub sum_of-push : (kind : List Rule) (rows : List (List ℤ)) (row : List ℤ) �
 sum_of-push kind rows row = sum_by-append (sum_of_row kind) rows (row ∷ []) ∙ ap (λ n. sum_of kind rows + n) (zero-add (sum_of_row kind row))
 
 -- the fault of a record by its tests
-by_tests : (number : ℕ) (many many' even even' known known' small small' : Bool) (bad bad' : Option Column) → many ≡ many' → even ≡ even' → bad ≡ bad' → known ≡ known' → small ≡ small'
+by_tests : (number : ℕ) (many many' even even' known known' small small' : Bool) (bad bad' : Option Column) → many ≡ many' → even ≡ even' → bad ≡ bad'
+    → known ≡ known' → small ≡ small'
     → record_fault number many even bad known small ≡ record_fault number many' even' bad' known' small'
 by_tests number many many' even even' known known' small small' bad bad' a b c d e = rw (a, b, c, d, e) refl
 
@@ -95,34 +103,45 @@ pub record Passes (width : ℕ) (rows : List (List ℤ)) (fields : List (List �
   pub even : length fields ≡ width
 
 -- the faults of a record, each with what comes before it
-pub fault-many : (columns : List Found) (width : ℕ) (rows : List (List ℤ)) (fields : List (List ℕ)) → most_rows ≤ length rows → fault_of columns width rows fields ≡ Some (TooManyRows (length rows + 2))
+pub fault-many : (columns : List Found) (width : ℕ) (rows : List (List ℤ)) (fields : List (List ℕ)) → most_rows ≤ length rows
+    → fault_of_record columns width rows fields ≡ Some (TooManyRows (length rows + 2))
 fault-many columns width rows fields many = by_tests _ _ true _ _ _ _ _ _ _ _ (le-leb most_rows (length rows) many) refl refl refl refl
 
-pub fault-uneven : (columns : List Found) (width : ℕ) (rows : List (List ℤ)) (fields : List (List ℕ)) → length rows < most_rows → (length fields ≡ width → ⊥) → fault_of columns width rows fields ≡ Some (UnevenRecord (length rows + 2))
+pub fault-uneven : (columns : List Found) (width : ℕ) (rows : List (List ℤ)) (fields : List (List ℕ)) → length rows < most_rows → (length fields ≡ width → ⊥)
+    → fault_of_record columns width rows fields ≡ Some (UnevenRecord (length rows + 2))
 fault-uneven columns width rows fields few uneven = by_tests _ _ false _ false _ _ _ _ _ _ (lt-leb most_rows (length rows) few) (ne_eqb (length fields) width uneven) refl refl refl
 
-pub fault-field : (columns : List Found) (width : ℕ) (rows : List (List ℤ)) (fields : List (List ℕ)) (column : Column) → Passes width rows fields → bad_column columns fields ≡ Some column
-    → fault_of columns width rows fields ≡ Some (BadField (length rows + 2) column)
-fault-field columns width rows fields column p bad = by_tests _ _ false _ true _ _ _ _ _ (Some column) (lt-leb most_rows (length rows) p.few) (eq-eqb (length fields) width p.even) bad refl refl
+pub fault-field : (columns : List Found) (width : ℕ) (rows : List (List ℤ)) (fields : List (List ℕ)) (column : Column) → Passes width rows fields
+    → bad_column columns fields ≡ Some column
+    → fault_of_record columns width rows fields ≡ Some (BadField (length rows + 2) column)
+fault-field columns width rows fields column p bad = by_tests _ _ false _ true _ _ _ _ _ (Some column) (lt-leb most_rows (length rows) p.few)
+    (eq-eqb (length fields) width p.even) bad refl refl
 
-pub fault-known : (columns : List Found) (width : ℕ) (rows : List (List ℤ)) (fields : List (List ℕ)) → Passes width rows fields → bad_column columns fields ≡ None → is_repeat (rules_of columns) rows (row_of columns fields) ≡ true
-    → fault_of columns width rows fields ≡ Some (DuplicateId (length rows + 2))
-fault-known columns width rows fields p good known = by_tests _ _ false _ true _ true _ _ _ None (lt-leb most_rows (length rows) p.few) (eq-eqb (length fields) width p.even) good known refl
+pub fault-known : (columns : List Found) (width : ℕ) (rows : List (List ℤ)) (fields : List (List ℕ)) → Passes width rows fields
+    → bad_column columns fields ≡ None → is_repeat (rules_of columns) rows (row_of columns fields) ≡ true
+    → fault_of_record columns width rows fields ≡ Some (DuplicateId (length rows + 2))
+fault-known columns width rows fields p good known = by_tests _ _ false _ true _ true _ _ _ None (lt-leb most_rows (length rows) p.few)
+    (eq-eqb (length fields) width p.even) good known refl
 
-pub fault-sum : (columns : List Found) (width : ℕ) (rows : List (List ℤ)) (fields : List (List ℕ)) → Passes width rows fields → bad_column columns fields ≡ None → is_repeat (rules_of columns) rows (row_of columns fields) ≡ false
-    → greatest < sum_of (rules_of columns) (rows ++ row_of columns fields ∷ []) → fault_of columns width rows fields ≡ Some (CostSum (length rows + 2))
-fault-sum columns width rows fields p good new above = by_tests _ _ false _ true _ false _ false _ None (lt-leb most_rows (length rows) p.few) (eq-eqb (length fields) width p.even) good new (lt-leb _ greatest above)
+pub fault-sum : (columns : List Found) (width : ℕ) (rows : List (List ℤ)) (fields : List (List ℕ)) → Passes width rows fields → bad_column columns fields ≡ None
+    → is_repeat (rules_of columns) rows (row_of columns fields) ≡ false
+    → greatest < sum_of (rules_of columns) (rows ++ row_of columns fields ∷ []) → fault_of_record columns width rows fields ≡ Some (CostSum (length rows + 2))
+fault-sum columns width rows fields p good new above = by_tests _ _ false _ true _ false _ false _ None (lt-leb most_rows (length rows) p.few)
+    (eq-eqb (length fields) width p.even) good new (lt-leb _ greatest above)
 
-pub fault-none : (columns : List Found) (width : ℕ) (rows : List (List ℤ)) (fields : List (List ℕ)) → Passes width rows fields → bad_column columns fields ≡ None → is_repeat (rules_of columns) rows (row_of columns fields) ≡ false
-    → sum_of (rules_of columns) (rows ++ row_of columns fields ∷ []) ≤ greatest → fault_of columns width rows fields ≡ None
-fault-none columns width rows fields p good new within = by_tests _ _ false _ true _ false _ true _ None (lt-leb most_rows (length rows) p.few) (eq-eqb (length fields) width p.even) good new (le-leb _ greatest within)
+pub fault-none : (columns : List Found) (width : ℕ) (rows : List (List ℤ)) (fields : List (List ℕ)) → Passes width rows fields
+    → bad_column columns fields ≡ None → is_repeat (rules_of columns) rows (row_of columns fields) ≡ false
+    → sum_of (rules_of columns) (rows ++ row_of columns fields ∷ []) ≤ greatest → fault_of_record columns width rows fields ≡ None
+fault-none columns width rows fields p good new within = by_tests _ _ false _ true _ false _ true _ None (lt-leb most_rows (length rows) p.few)
+    (eq-eqb (length fields) width p.even) good new (le-leb _ greatest within)
 
 -- the values that were read make a row of the kind, where no column was bad
 none_from : (o : Option Column) → ((column : Column) → o ≡ Some column → ⊥) → o ≡ None
 none_from None never = refl
 none_from (Some column) never = absurd (never column refl)
 
-pub read-row : (columns : List Found) (fields : List (List ℕ)) (bad : Option Column) (values : List ℤ) (kind : List Rule) → bad ≡ bad_column columns fields → (IsNone bad → values ≡ row_of columns fields)
+pub read-row : (columns : List Found) (fields : List (List ℕ)) (bad : Option Column) (values : List ℤ) (kind : List Rule) → bad ≡ bad_column columns fields
+    → (IsNone bad → values ≡ row_of columns fields)
     → ((column : Column) → bad ≡ Some column → ⊥) → rules_of columns ≡ kind → IsRow kind values
 read-row columns fields bad values kind is row never same =
     let none = none_from bad never in

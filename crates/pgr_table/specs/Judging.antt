@@ -104,8 +104,8 @@ record_fault number is_many is_even bad is_known is_small = first_of (
     ∷ [])
 
 -- the fault of a record behind these rows, under a header with this many fields; the header is record 1
-abbrev pub fault_of : List Found → ℕ → List (List ℤ) → List (List ℕ) → Option TableFault
-fault_of columns width rows fields = record_fault (length rows + 2)
+abbrev pub fault_of_record : List Found → ℕ → List (List ℤ) → List (List ℕ) → Option TableFault
+fault_of_record columns width rows fields = record_fault (length rows + 2)
     (nat_le most_rows (length rows))
     (length fields == width)
     (bad_column columns fields)
@@ -115,7 +115,7 @@ fault_of columns width rows fields = record_fault (length rows + 2)
 -- the faults of records behind these rows, each judged by the rows before it alone
 abbrev pub faults_behind : List Found → ℕ → List (List ℤ) → List (List (List ℕ)) → List (Option TableFault)
 faults_behind columns width rows [] = []
-faults_behind columns width rows (fields ∷ later) = fault_of columns width rows fields ∷ faults_behind columns width (rows ++ row_of columns fields ∷ []) later
+faults_behind columns width rows (fields ∷ later) = fault_of_record columns width rows fields ∷ faults_behind columns width (rows ++ row_of columns fields ∷ []) later
 
 -- the verdict: the fault, or the rows where there is none
 abbrev pub verdict : Option TableFault → List (List ℤ) → Result (List (List ℤ)) TableFault

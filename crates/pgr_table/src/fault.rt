@@ -1,5 +1,9 @@
+ghost use Rattle.std.specs.Prelude.{◌≡◌};
+ghost use Rattle.pgr_outside.specs.Parts.{parts_text};
+ghost use Rattle.pgr_table.specs.FaultText.{fault_text};
+
 use crate::column::Column;
-use pgr_outside::NoMemory;
+use pgr_outside::{NoMemory, Part};
 use std::alloc::AllocFailed;
 use thiserror::Error;
 
@@ -34,6 +38,69 @@ pub enum TableFault {
     /// With the record with this number the sum of the costs passes 2^63 - 1.
     #[error("record {0}: sum too large")]
     CostSum(u64),
+}
+
+impl TableFault {
+    /// What is said of the fault, in parts; [`Display`](std::fmt::Display) says the same.
+    pub fn parts(self) -> [Part<'static>; 4]
+        ensures { parts_text result ≡ fault_text self }
+    {
+        let none = Part::Words("");
+        let record = Part::Words("record ");
+        match self {
+            TableFault::NoHeader => [Part::Words("no header"), none, none, none],
+            TableFault::UnevenRecord(number) => {
+                [
+                    record,
+                    Part::Number(number),
+                    Part::Words(" is uneven"),
+                    none,
+                ]
+            }
+            TableFault::MissingColumn(column) => [
+                Part::Words("column "),
+                Part::Words(column.name()),
+                Part::Words(" missing"),
+                none,
+            ],
+            TableFault::RepeatedColumn(column) => [
+                Part::Words("column "),
+                Part::Words(column.name()),
+                Part::Words(" repeated"),
+                none,
+            ],
+            TableFault::BadField(number, column) => [
+                record,
+                Part::Number(number),
+                Part::Words(": bad "),
+                Part::Words(column.name()),
+            ],
+            TableFault::DuplicateId(number) => {
+                [
+                    record,
+                    Part::Number(number),
+                    Part::Words(": id repeated"),
+                    none,
+                ]
+            }
+            TableFault::TooManyRows(number) => {
+                [
+                    record,
+                    Part::Number(number),
+                    Part::Words(": too many rows"),
+                    none,
+                ]
+            }
+            TableFault::CostSum(number) => {
+                [
+                    record,
+                    Part::Number(number),
+                    Part::Words(": sum too large"),
+                    none,
+                ]
+            }
+        }
+    }
 }
 
 /// Why there is no table.

@@ -2,7 +2,7 @@ ghost use Rattle.std.specs.Prelude.{◌≡◌, ◌+◌, ◌<◌, ◌≤◌, ◌�
 ghost use Rattle.std.specs.Option.{SomeIff};
 ghost use Rattle.csv.specs.Records.{fields_of};
 ghost use Rattle.pgr_table.specs.Rows.{counted, most_rows, greatest};
-ghost use Rattle.pgr_table.specs.Judging.{bad_column, fault_of, row_of, rules_of, sum_of, sum_of_row};
+ghost use Rattle.pgr_table.specs.Judging.{bad_column, fault_of_record, row_of, rules_of, sum_of, sum_of_row};
 ghost use Rattle.pgr_table.specs.Kept.{IsFault};
 
 use crate::column::Column;
@@ -30,7 +30,7 @@ pub(crate) fn add_record<T: Growing>(
     requires few { length (T.rows table.old) ≤ most_rows }
     requires sum { sum ≡ sum_of T.kind (T.rows table.old) }
     requires small { sum ≤ greatest }
-    ensures fault { let fault = fault_of columns.now width (T.rows table.old) (fields_of fields.now) in
+    ensures fault { let fault = fault_of_record columns.now width (T.rows table.old) (fields_of fields.now) in
         MatchResult result (λ _. fault ≡ None) (λ refused. IsFault refused fault) }
     ensures row { IfOk result (λ _. T.rows table.new ≡ T.rows table.old ++ row_of columns.now (fields_of fields.now) ∷ []) }
     ensures sum { IfOk result (λ sum. sum ≡ sum_of T.kind (T.rows table.new)) }

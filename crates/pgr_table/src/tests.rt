@@ -1,4 +1,8 @@
-use crate::{Column, EdgeRow, PairRow, TableFault, TableRefused, read_combinations, read_edges};
+use crate::{
+    Column, EdgeRow, PairRow, PairTable, Table, TableFault, TableRefused, read_combinations,
+    read_edges,
+};
+use pgr_outside::{MemorySink, write_parts};
 use std::test::Fail;
 
 // A table, and its number of rows or its fault.
@@ -135,11 +139,31 @@ fn a_pair_may_stand_twice(rt: HostRuntime) -> Result<(), Fail> {
     assert_eq!(rt; table.row(0), pair);
     assert_eq!(rt; table.row(1), pair);
     assert_eq!(rt; table.row(2).source, 4);
-    let refused = read_combinations(rt.alloc(), b"source,target\n1,2\n1,2.0\n").err();
+    let refused = PairTable::read(rt.alloc(), b"source,target\n1,2\n1,2.0\n").err();
     assert_eq!(rt;
         refused,
         Some(TableRefused::Fault(TableFault::BadField(3, Column::Target)))
     );
     assert_eq!(rt; Column::ReverseCost.name(), "reverse_cost");
+    Ok(())
+}
+
+#[test]
+fn display_says_what_the_parts_say(rt: HostRuntime) -> Result<(), Fail> {
+    for fault in [
+        TableFault::NoHeader,
+        TableFault::UnevenRecord(5),
+        TableFault::MissingColumn(Column::Target),
+        TableFault::RepeatedColumn(Column::Cost),
+        TableFault::BadField(u64::MAX, Column::ReverseCost),
+        TableFault::DuplicateId(3),
+        TableFault::TooManyRows(4194306),
+        TableFault::CostSum(2),
+    ] {
+        let mut said = MemorySink::with_room(rt.alloc(), 100, 100, Vec::new(rt.alloc()))?;
+        write_parts(&mut said, &fault.parts())?;
+        let shown = format!(in rt.alloc(); "{fault}")?;
+        assert_eq!(rt; said.bytes(), shown.as_str().as_bytes());
+    }
     Ok(())
 }

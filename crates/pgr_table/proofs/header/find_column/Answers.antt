@@ -12,20 +12,25 @@ pub returns-then-is_some-clause-fault : goal.returns-then-is_some-clause-fault
 returns-then-is_some-clause-fault c =
     let named = c.as_bytes-name.ensures.value ∙ c.name.ensures in
     sym (ap (λ (n : List ℕ). fault_at c.args.rule.now (places_from 0 n (fields_of c.args.header.now))) (sym named)
-    ∙ found-twice c.args.rule.now c.as_bytes-name.result.now (fields_of c.args.header.now) c.loop-place.found c.loop-place.place (omega arith) (sym c.has_field.ensures ∙ c.if-has_field.true) c.loop-place.invariant (sym c.is_some.ensures ∙ c.if-is_some.true))
+    ∙ found-twice c.args.rule.now c.as_bytes-name.result.now (fields_of c.args.header.now) c.loop-place.found c.loop-place.place (omega arith)
+    (sym c.has_field.ensures ∙ c.if-has_field.true) c.loop-place.invariant (sym c.is_some.ensures ∙ c.if-is_some.true))
 
 pub loop-place-preserved : goal.loop-place-preserved
 loop-place-preserved c =
     elim c.if-has_field.branch [
-      | then-has_field+else-is_some w ↦ rw w.found-is (found-first c.as_bytes-name.result.now (fields_of c.args.header.now) c.loop-place.found c.loop-place.place (omega arith) (sym c.has_field.ensures ∙ w.if-has_field.true) (sym w.is_some.ensures ∙ w.if-is_some.false) c.loop-place.invariant)
-      | else-has_field w ↦ rw w.found-is (found-other c.as_bytes-name.result.now (fields_of c.args.header.now) c.loop-place.found c.loop-place.place (omega arith) (sym c.has_field.ensures ∙ w.if-has_field.false) c.loop-place.invariant)
+      | then-has_field+else-is_some w ↦ rw w.found-is (found-first c.as_bytes-name.result.now (fields_of c.args.header.now) c.loop-place.found
+          c.loop-place.place (omega arith) (sym c.has_field.ensures ∙ w.if-has_field.true) (sym w.is_some.ensures ∙ w.if-is_some.false) c.loop-place.invariant)
+      | else-has_field w ↦ rw w.found-is (found-other c.as_bytes-name.result.now (fields_of c.args.header.now) c.loop-place.found c.loop-place.place
+          (omega arith) (sym c.has_field.ensures ∙ w.if-has_field.false) c.loop-place.invariant)
     ]
 
 pub returns-then-is_none-2-clause-fault : goal.returns-then-is_none-2-clause-fault
 returns-then-is_none-2-clause-fault c =
     let named = c.as_bytes-name.ensures.value ∙ c.name.ensures in
     sym (ap (λ (n : List ℕ). fault_at c.args.rule.now (places_from 0 n (fields_of c.args.header.now))) (sym named)
-    ∙ found-missing c.args.rule.now c.as_bytes-name.result.now (fields_of c.args.header.now) c.loop-place.found c.loop-place.place (omega arith) c.loop-place.invariant (is_none-result c.loop-place.found c.is_none.result c.is_none.ensures ∙ c.if-is_none.true) (is_none-result c.args.rule.now.absent c.is_none-then-is_none.result c.is_none-then-is_none.ensures ∙ c.if-is_none-2.true))
+    ∙ found-missing c.args.rule.now c.as_bytes-name.result.now (fields_of c.args.header.now) c.loop-place.found c.loop-place.place (omega arith)
+    c.loop-place.invariant (is_none-result c.loop-place.found c.is_none.result c.is_none.ensures ∙ c.if-is_none.true)
+    (is_none-result c.args.rule.now.absent c.is_none-then-is_none.result c.is_none-then-is_none.ensures ∙ c.if-is_none-2.true))
 
 pub returns-clause-fault : goal.returns-clause-fault
 returns-clause-fault c =
@@ -33,7 +38,8 @@ returns-clause-fault c =
     sym (ap (λ (n : List ℕ). fault_at c.args.rule.now (places_from 0 n (fields_of c.args.header.now))) (sym named)
     ∙ found-good c.args.rule.now c.as_bytes-name.result.now (fields_of c.args.header.now) c.loop-place.found c.loop-place.place (omega arith) c.loop-place.invariant
     (elim c.else-is_none.branch [
-      | else-is_none-via-then-is_none+else-is_none-2 w ↦ λ none. is_none-result c.args.rule.now.absent w.is_none-then-is_none.result w.is_none-then-is_none.ensures ∙ w.if-is_none-2.false
+      | else-is_none-via-then-is_none+else-is_none-2 w ↦ λ none. is_none-result c.args.rule.now.absent w.is_none-then-is_none.result
+          w.is_none-then-is_none.ensures ∙ w.if-is_none-2.false
       | else-is_none-via-else-is_none w ↦ λ none. cc (sym none ∙ (is_none-result c.loop-place.found c.is_none.result c.is_none.ensures ∙ w.if-is_none.false))
     ]))
 

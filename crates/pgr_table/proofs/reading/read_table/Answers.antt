@@ -12,7 +12,8 @@ loop-table-init g c =
     let found = rw c.kind.ensures at c.in_ok-columns.ensures.found in
     let first = rw c.if-not-branch.false at c.in_ok-read.ensures.found in
     record {
-      verdict = rw (c.len-width.ensures, c.empty-table.ensures) (verdict-header g.T.Growing.kind c.in_ok-columns.columns.items (records default_config (strip_bom c.args.bytes.now)) c.read.new.self header (sym c.new-records.ensures ∙ first) none found);
+      verdict = rw (c.len-width.ensures, c.empty-table.ensures) (verdict-header g.T.Growing.kind c.in_ok-columns.columns.items
+          (records default_config (strip_bom c.args.bytes.now)) c.read.new.self header (sym c.new-records.ensures ∙ first) none found);
       kind = rw found (rules_of-found header g.T.Growing.kind);
       few = rw c.empty-table.ensures (omega arith);
       sum = rw c.empty-table.ensures refl;

@@ -13,10 +13,12 @@ loop-place-preserved c =
           let grown = rw (to_z-of_z {w = w64} {z = get_or c.args.values.now c.loop-place.place (pos 0)} fits) at w.in_ok-grown.ensures in
           record {
             small = omega (arith, grown.0, grown.1, w.grown-is);
-            sum = sum-summed c.args.columns.now c.args.values.now c.loop-place.place _ _ c.loop-place.grown c.match-column.grown c.loop-place-test.true c.requires.whole w.in-Summed.is (w.grown-is ∙ grown.1) c.loop-place.invariant.sum;
+            sum = sum-summed c.args.columns.now c.args.values.now c.loop-place.place _ _ c.loop-place.grown c.match-column.grown c.loop-place-test.true
+                c.requires.whole w.in-Summed.is (w.grown-is ∙ grown.1) c.loop-place.invariant.sum;
           }
       | in_default w ↦ record {
         small = omega (arith, w.grown-is);
-        sum = sum-free c.args.columns.now c.args.values.now c.loop-place.place _ _ c.loop-place.grown c.match-column.grown c.loop-place-test.true c.requires.whole w.in_default.not-Summed w.grown-is c.loop-place.invariant.sum;
+        sum = sum-free c.args.columns.now c.args.values.now c.loop-place.place _ _ c.loop-place.grown c.match-column.grown c.loop-place-test.true
+            c.requires.whole w.in_default.not-Summed w.grown-is c.loop-place.invariant.sum;
       }
     ]

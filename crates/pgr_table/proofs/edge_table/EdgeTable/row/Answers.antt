@@ -19,4 +19,5 @@ returns c =
       to_z-of_z {w = w64} {z = c.unwrap.result.1.now.cost} cost,
       to_z-of_z {w = w64} {z = c.unwrap.result.1.now.reverse_cost} reverse_cost,
     )
-    (rw (← c.self.view_is) (row-at_place c.self.inside.edges.entries c.args.i (c.unwrap.result.0.now, c.unwrap.result.1.now) (sym c.get_index.ensures.entry ∙ ap (option_map deref_pair) c.unwrap.ensures)))
+    (rw (← c.self.view_is) (row-at_place c.self.inside.edges.entries c.args.i (c.unwrap.result.0.now, c.unwrap.result.1.now)
+    (sym c.get_index.ensures.entry ∙ ap (option_map deref_pair) c.unwrap.ensures)))

@@ -12,7 +12,12 @@ invariant_of-self-2 c =
     let new = rw (← c.self.view_is) at c.requires.new in
     let sum = rw (← c.self.view_is) at c.requires.sum in
     let few = rw (← c.self.view_is, length-map (rows_in entries) values_of_edge) at c.requires.few in
-    rw (c.in_ok-insert.ensures.entries, insert_entry-edge c.self.inside.edges c.args.values.now c.kept.result c.requires.row new, rows_in-push entries c.args.values.now c.kept.result c.kept.ensures)
+    rw (
+      c.in_ok-insert.ensures.entries,
+      insert_entry-edge c.self.inside.edges c.args.values.now c.kept.result c.requires.row new,
+      rows_in-push entries
+          c.args.values.now c.kept.result c.kept.ensures,
+    )
     (AreAccepted-push (rows_in entries) c.args.values.now c.self.invariant c.requires.row few new sum)
 
 pub returns-clause-ok : goal.returns-clause-ok
