@@ -43,7 +43,8 @@ unfolding Gives
 link_from_gives row direction cost link h = ap (link_of_sense row direction) h.0 ∙ ap Some (sym h.1)
 
 -- what a row gives in the directed graph
-directed_cases : (row : EdgeRow) (link : LinkOf ℤ) (direction : Direction) → HasSense true row direction link.cost → link ≡ link_along row direction link.cost → Gives row Forward row.cost link ⊎ Gives row Backward row.reverse_cost link
+directed_cases : (row : EdgeRow) (link : LinkOf ℤ) (direction : Direction) → HasSense true row direction link.cost → link ≡ link_along row direction link.cost
+    → Gives row Forward row.cost link ⊎ Gives row Backward row.reverse_cost link
 unfolding Gives
 directed_cases row link Forward sense along = inl (sense, along)
 directed_cases row link Backward sense along = inr (sense, along)
@@ -54,14 +55,18 @@ directed_from row link (inl h) = (Forward, h.0, h.1)
 directed_from row link (inr h) = (Backward, h.0, h.1)
 
 -- what it gives in the undirected graph: both ways with each cost
-undirected_cases : (row : EdgeRow) (link : LinkOf ℤ) (direction : Direction) → HasSense false row direction link.cost → link ≡ link_along row direction link.cost → (Gives row Forward row.cost link ⊎ Gives row Backward row.reverse_cost link) ⊎ (Gives row Backward row.cost link ⊎ Gives row Forward row.reverse_cost link)
+undirected_cases : (row : EdgeRow) (link : LinkOf ℤ) (direction : Direction) → HasSense false row direction link.cost
+    → link ≡ link_along row direction link.cost
+    → (Gives row Forward row.cost link ⊎ Gives row Backward row.reverse_cost link) ⊎ (Gives row Backward row.cost link ⊎ Gives row Forward row.reverse_cost link)
 unfolding Gives
 undirected_cases row link Forward (inl sense) along = inl (inl (sense, along))
 undirected_cases row link Forward (inr sense) along = inr (inr (sense, along))
 undirected_cases row link Backward (inl sense) along = inr (inl (sense, along))
 undirected_cases row link Backward (inr sense) along = inl (inr (sense, along))
 
-undirected_from : (row : EdgeRow) (link : LinkOf ℤ) → (Gives row Forward row.cost link ⊎ Gives row Backward row.reverse_cost link) ⊎ (Gives row Backward row.cost link ⊎ Gives row Forward row.reverse_cost link) → IsLinkOfRow false row link
+undirected_from : (row : EdgeRow) (link : LinkOf ℤ)
+    → (Gives row Forward row.cost link ⊎ Gives row Backward row.reverse_cost link) ⊎ (Gives row Backward row.cost link ⊎ Gives row Forward row.reverse_cost link)
+    → IsLinkOfRow false row link
 unfolding Gives
 undirected_from row link (inl (inl h)) = (Forward, inl h.0, h.1)
 undirected_from row link (inl (inr h)) = (Backward, inr h.0, h.1)
@@ -72,7 +77,8 @@ undirected_from row link (inr (inr h)) = (Forward, inr h.0, h.1)
 with : EdgeRow → Direction → ℤ → List (LinkOf ℤ) → List (LinkOf ℤ)
 with row direction cost links = links ++ option_to_list (link_of_sense row direction cost)
 
-with_cases : (row : EdgeRow) (direction : Direction) (cost : ℤ) (links : List (LinkOf ℤ)) (link : LinkOf ℤ) → Contains (with row direction cost links) link → Contains links link ⊎ Gives row direction cost link
+with_cases : (row : EdgeRow) (direction : Direction) (cost : ℤ) (links : List (LinkOf ℤ)) (link : LinkOf ℤ) → Contains (with row direction cost links) link
+    → Contains links link ⊎ Gives row direction cost link
 unfolding with
 with_cases row direction cost links link h = ⊎_elim inl (λ e. inr (gives_from_link row direction cost link e)) (option_cases links (link_of_sense row direction cost) link h)
 
@@ -80,31 +86,40 @@ with_left : (row : EdgeRow) (direction : Direction) (cost : ℤ) (links : List (
 unfolding with
 with_left row direction cost links link h = option_left links (link_of_sense row direction cost) link h
 
-with_right : (row : EdgeRow) (direction : Direction) (cost : ℤ) (links : List (LinkOf ℤ)) (link : LinkOf ℤ) → Gives row direction cost link → Contains (with row direction cost links) link
+with_right : (row : EdgeRow) (direction : Direction) (cost : ℤ) (links : List (LinkOf ℤ)) (link : LinkOf ℤ) → Gives row direction cost link
+    → Contains (with row direction cost links) link
 unfolding with
 with_right row direction cost links link h = option_right links (link_of_sense row direction cost) link (link_from_gives row direction cost link h)
 
 -- forward with the one cost and then backward with the other
-both_cases : (row : EdgeRow) (there back : Direction) (cost other : ℤ) (links : List (LinkOf ℤ)) (link : LinkOf ℤ) → Contains (with row back other (with row there cost links)) link → Contains links link ⊎ (Gives row there cost link ⊎ Gives row back other link)
+both_cases : (row : EdgeRow) (there back : Direction) (cost other : ℤ) (links : List (LinkOf ℤ)) (link : LinkOf ℤ)
+    → Contains (with row back other (with row there cost links)) link → Contains links link ⊎ (Gives row there cost link ⊎ Gives row back other link)
 both_cases row there back cost other links link h =
     ⊎_elim (λ k. ⊎_elim inl (λ g. inr (inl g)) (with_cases row there cost links link k)) (λ g. inr (inr g)) (with_cases row back other (with row there cost links) link h)
 
-both_from : (row : EdgeRow) (there back : Direction) (cost other : ℤ) (links : List (LinkOf ℤ)) (link : LinkOf ℤ) → Contains links link ⊎ (Gives row there cost link ⊎ Gives row back other link) → Contains (with row back other (with row there cost links)) link
+both_from : (row : EdgeRow) (there back : Direction) (cost other : ℤ) (links : List (LinkOf ℤ)) (link : LinkOf ℤ)
+    → Contains links link ⊎ (Gives row there cost link ⊎ Gives row back other link) → Contains (with row back other (with row there cost links)) link
 both_from row there back cost other links link (inl h) = with_left row back other _ link (with_left row there cost links link h)
 both_from row there back cost other links link (inr (inl g)) = with_left row back other _ link (with_right row there cost links link g)
 both_from row there back cost other links link (inr (inr g)) = with_right row back other _ link g
 
 -- the list after the two links of the directed graph
-directed_is : (row : EdgeRow) (before after : List (LinkOf ℤ)) → after ≡ (before ++ option_to_list (link_of_sense row Forward row.cost)) ++ option_to_list (link_of_sense row Backward row.reverse_cost) → (link : LinkOf ℤ) → Contains after link ↔ (Contains before link ⊎ IsLinkOfRow true row link)
+directed_is : (row : EdgeRow) (before after : List (LinkOf ℤ))
+    → after ≡ (before ++ option_to_list (link_of_sense row Forward row.cost)) ++ option_to_list (link_of_sense row Backward row.reverse_cost)
+    → (link : LinkOf ℤ) → Contains after link ↔ (Contains before link ⊎ IsLinkOfRow true row link)
 unfolding with
 directed_is row before after e link =
     let P : List (LinkOf ℤ) → Type 0 = λ links. Contains links link in (
       λ h. ⊎_elim inl (λ g. inr (directed_from row link g)) (both_cases row Forward Backward row.cost row.reverse_cost before link (subst P e h)),
-      ⊎_elim (λ h. subst P (sym e) (both_from row Forward Backward row.cost row.reverse_cost before link (inl h))) (λ h. subst P (sym e) (both_from row Forward Backward row.cost row.reverse_cost before link (inr (directed_cases row link h.0 h.1 h.2)))),
+      ⊎_elim (λ h. subst P (sym e) (both_from row Forward Backward row.cost row.reverse_cost before link (inl h)))
+          (λ h. subst P (sym e) (both_from row Forward Backward row.cost row.reverse_cost before link (inr (directed_cases row link h.0 h.1 h.2)))),
     )
 
 -- the list after the four links of the undirected graph
-undirected_is : (row : EdgeRow) (before after : List (LinkOf ℤ)) → after ≡ (((before ++ option_to_list (link_of_sense row Forward row.cost)) ++ option_to_list (link_of_sense row Backward row.reverse_cost)) ++ option_to_list (link_of_sense row Backward row.cost)) ++ option_to_list (link_of_sense row Forward row.reverse_cost) → (link : LinkOf ℤ) → Contains after link ↔ (Contains before link ⊎ IsLinkOfRow false row link)
+undirected_is : (row : EdgeRow) (before after : List (LinkOf ℤ))
+    → after ≡ (((before ++ option_to_list (link_of_sense row Forward row.cost)) ++ option_to_list (link_of_sense row Backward row.reverse_cost)) ++
+    option_to_list (link_of_sense row Backward row.cost)) ++ option_to_list (link_of_sense row Forward row.reverse_cost)
+    → (link : LinkOf ℤ) → Contains after link ↔ (Contains before link ⊎ IsLinkOfRow false row link)
 unfolding with
 undirected_is row before after e link =
     let P : List (LinkOf ℤ) → Type 0 = λ links. Contains links link in
@@ -114,20 +129,32 @@ undirected_is row before after e link =
           (λ g. inr (undirected_from row link (inr g)))
           (both_cases row Backward Forward row.cost row.reverse_cost first link (subst P e h)),
       ⊎_elim
-          (λ h. subst P (sym e) (both_from row Backward Forward row.cost row.reverse_cost first link (inl (both_from row Forward Backward row.cost row.reverse_cost before link (inl h)))))
+          (λ h. subst P (sym e) (both_from row Backward Forward row.cost row.reverse_cost first link
+          (inl (both_from row Forward Backward row.cost row.reverse_cost before link (inl h)))))
           (λ h. subst P (sym e) (both_from row Backward Forward row.cost row.reverse_cost first link
           (⊎_elim (λ g. inl (both_from row Forward Backward row.cost row.reverse_cost before link (inr g))) inr (undirected_cases row link h.0 h.1 h.2)))),
     )
 
 -- the same, step by step
-pub directed_steps : (row : EdgeRow) (before middle after : List (LinkOf ℤ)) (o p : Option (LinkOf ℤ)) → o ≡ link_of_sense row Forward row.cost → middle ≡ before ++ option_to_list o → p ≡ link_of_sense row Backward row.reverse_cost → after ≡ middle ++ option_to_list p → (link : LinkOf ℤ) → Contains after link ↔ (Contains before link ⊎ IsLinkOfRow true row link)
+pub directed_steps : (row : EdgeRow) (before middle after : List (LinkOf ℤ)) (o p : Option (LinkOf ℤ)) → o ≡ link_of_sense row Forward row.cost
+    → middle ≡ before ++ option_to_list o → p ≡ link_of_sense row Backward row.reverse_cost → after ≡ middle ++ option_to_list p → (link : LinkOf ℤ)
+    → Contains after link ↔ (Contains before link ⊎ IsLinkOfRow true row link)
 directed_steps row before middle after o p o_is middle_is p_is after_is =
-    let e : after ≡ (before ++ option_to_list (link_of_sense row Forward row.cost)) ++ option_to_list (link_of_sense row Backward row.reverse_cost) = after_is ∙ (ap (λ links. links ++ option_to_list p) middle_is ∙ (ap (λ x. (before ++ option_to_list x) ++ option_to_list p) o_is ∙ ap (λ x. (before ++ option_to_list (link_of_sense row Forward row.cost)) ++ option_to_list x) p_is)) in
+    let e : after ≡ (before ++ option_to_list (link_of_sense row Forward row.cost)) ++ option_to_list (link_of_sense row Backward row.reverse_cost) = after_is
+    ∙ (ap (λ links. links ++ option_to_list p) middle_is ∙ (ap (λ x. (before ++ option_to_list x) ++ option_to_list p) o_is ∙ ap
+    (λ x. (before ++ option_to_list (link_of_sense row Forward row.cost)) ++ option_to_list x) p_is)) in
     directed_is row before after e
 
-pub undirected_steps : (row : EdgeRow) (before first second third after : List (LinkOf ℤ)) (o p q r : Option (LinkOf ℤ)) → o ≡ link_of_sense row Forward row.cost → first ≡ before ++ option_to_list o → p ≡ link_of_sense row Backward row.reverse_cost → second ≡ first ++ option_to_list p → q ≡ link_of_sense row Backward row.cost → third ≡ second ++ option_to_list q → r ≡ link_of_sense row Forward row.reverse_cost → after ≡ third ++ option_to_list r → (link : LinkOf ℤ) → Contains after link ↔ (Contains before link ⊎ IsLinkOfRow false row link)
+pub undirected_steps : (row : EdgeRow) (before first second third after : List (LinkOf ℤ)) (o p q r : Option (LinkOf ℤ))
+    → o ≡ link_of_sense row Forward row.cost → first ≡ before ++ option_to_list o → p ≡ link_of_sense row Backward row.reverse_cost
+    → second ≡ first ++ option_to_list p → q ≡ link_of_sense row Backward row.cost → third ≡ second ++ option_to_list q
+    → r ≡ link_of_sense row Forward row.reverse_cost → after ≡ third ++ option_to_list r → (link : LinkOf ℤ)
+    → Contains after link ↔ (Contains before link ⊎ IsLinkOfRow false row link)
 undirected_steps row before first second third after o p q r o_is first_is p_is second_is q_is third_is r_is after_is =
     let e_1 : first ≡ before ++ option_to_list (link_of_sense row Forward row.cost) = first_is ∙ ap (λ x. before ++ option_to_list x) o_is in
-    let e_2 : second ≡ (before ++ option_to_list (link_of_sense row Forward row.cost)) ++ option_to_list (link_of_sense row Backward row.reverse_cost) = second_is ∙ (ap (λ x. first ++ option_to_list x) p_is ∙ ap (λ x. x ++ option_to_list (link_of_sense row Backward row.reverse_cost)) e_1) in
-    let e_3 : third ≡ ((before ++ option_to_list (link_of_sense row Forward row.cost)) ++ option_to_list (link_of_sense row Backward row.reverse_cost)) ++ option_to_list (link_of_sense row Backward row.cost) = third_is ∙ (ap (λ x. second ++ option_to_list x) q_is ∙ ap (λ x. x ++ option_to_list (link_of_sense row Backward row.cost)) e_2) in
+    let e_2 : second ≡ (before ++ option_to_list (link_of_sense row Forward row.cost)) ++ option_to_list (link_of_sense row Backward row.reverse_cost) =
+    second_is ∙ (ap (λ x. first ++ option_to_list x) p_is ∙ ap (λ x. x ++ option_to_list (link_of_sense row Backward row.reverse_cost)) e_1) in
+    let e_3 : third ≡ ((before ++ option_to_list (link_of_sense row Forward row.cost)) ++ option_to_list (link_of_sense row Backward row.reverse_cost)) ++
+    option_to_list (link_of_sense row Backward row.cost) = third_is ∙ (ap (λ x. second ++ option_to_list x) q_is ∙ ap
+    (λ x. x ++ option_to_list (link_of_sense row Backward row.cost)) e_2) in
     undirected_is row before after (after_is ∙ (ap (λ x. third ++ option_to_list x) r_is ∙ ap (λ x. x ++ option_to_list (link_of_sense row Forward row.reverse_cost)) e_3))

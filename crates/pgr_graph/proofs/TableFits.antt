@@ -53,10 +53,13 @@ sum_without ws k inside = let h = sum_by-set (λ w. w) ws k 0 0 inside in omega 
 
 -- the weights allow for the links of the walk: each costs at most the weight at each row that gives it
 abbrev Covers : List EdgeRow → Bool → List (LinkOf ℤ) → List ℕ → Type 0
-Covers rows directed walk ws = (link : LinkOf ℤ) → Among link walk → (k : ℕ) (row : EdgeRow) → k < length rows → get_or rows k row ≡ row → IsLinkOfRow directed row link → link.cost ≤ get_or ws k 0
+Covers rows directed walk ws = (link : LinkOf ℤ) → Among link walk → (k : ℕ) (row : EdgeRow) → k < length rows → get_or rows k row ≡ row → IsLinkOfRow directed
+    row link → link.cost ≤ get_or ws k 0
 
 -- without the row of its first link, the weights allow for the rest of a walk that comes to no vertex twice
-rest_covered : (rows : List EdgeRow) (directed : Bool) (link : LinkOf ℤ) (rest : List (LinkOf ℤ)) (ws : List ℕ) (k : ℕ) (row : EdgeRow) → k < length rows → get_or rows k row ≡ row → IsLinkOfRow directed row link → Apart (link.from ∷ map (λ l. l.to) (link ∷ rest)) → Covers rows directed (link ∷ rest) ws → Covers rows directed rest (set ws k 0)
+rest_covered : (rows : List EdgeRow) (directed : Bool) (link : LinkOf ℤ) (rest : List (LinkOf ℤ)) (ws : List ℕ) (k : ℕ) (row : EdgeRow) → k < length rows
+    → get_or rows k row ≡ row → IsLinkOfRow directed row link → Apart (link.from ∷ map (λ l. l.to) (link ∷ rest)) → Covers rows directed (link ∷ rest) ws
+    → Covers rows directed rest (set ws k 0)
 rest_covered rows directed link rest ws k row inside at gives apart covers other among j other_row j_inside j_at other_gives =
     ⊎_elim
     (λ (same : j ≡ k).
@@ -69,7 +72,8 @@ rest_covered rows directed link rest ws k row inside at gives apart covers other
     (cases_eq j k)
 
 -- a walk that comes to no vertex twice costs at most the sum of weights that allow for its links
-walk_le_sum : (rows : List EdgeRow) (directed : Bool) (walk : List (LinkOf ℤ)) (s t : ℤ) (ws : List ℕ) → length ws ≡ length rows → IsWalk (IsLinkOfTable rows directed) s walk t → Apart (vertices_of s walk) → Covers rows directed walk ws → cost_of walk ≤ sum ws
+walk_le_sum : (rows : List EdgeRow) (directed : Bool) (walk : List (LinkOf ℤ)) (s t : ℤ) (ws : List ℕ) → length ws ≡ length rows
+    → IsWalk (IsLinkOfTable rows directed) s walk t → Apart (vertices_of s walk) → Covers rows directed walk ws → cost_of walk ≤ sum ws
 walk_le_sum rows directed [] s t ws long is_walk apart covers = omega arith
 walk_le_sum rows directed (link ∷ rest) s t ws long is_walk apart covers =
     let has = is_walk.0 in
@@ -77,7 +81,8 @@ walk_le_sum rows directed (link ∷ rest) s t ws long is_walk apart covers =
     let from_link = subst P (sym is_walk.1) apart in
     let first = covers link (inl refl) has.0 has.1 has.2 has.3 has.4 in
     let shorter = length-set ws has.0 0 in
-    let others = walk_le_sum rows directed rest link.to t (set ws has.0 0) (shorter ∙ long) is_walk.2 apart.1 (rest_covered rows directed link rest ws has.0 has.1 has.2 has.3 has.4 from_link covers) in
+    let others = walk_le_sum rows directed rest link.to t (set ws has.0 0) (shorter ∙ long) is_walk.2 apart.1 (rest_covered rows directed link rest ws has.0
+    has.1 has.2 has.3 has.4 from_link covers) in
     let both = sum_without ws has.0 (omega (arith, has.2)) in
     omega arith
 
@@ -98,6 +103,7 @@ table_fits rows directed accepted = record {
       omega (arith, accepted.sum);
   routes = λ s t walk route.
       let total = sum-map weight_of rows in
-      let h = walk_le_sum rows directed walk s t (map weight_of rows) (length-map rows weight_of) route.is_walk (Apart-from_IsWithoutRepeats (vertices_of s walk) route.loopless) (rows_cover rows directed walk) in
+      let h = walk_le_sum rows directed walk s t (map weight_of rows) (length-map rows weight_of) route.is_walk
+      (Apart-from_IsWithoutRepeats (vertices_of s walk) route.loopless) (rows_cover rows directed walk) in
       omega (arith, accepted.sum);
 }

@@ -44,7 +44,9 @@ unfolding AreLinksOf
 no_links rows directed link = (λ h. absurd (omega (arith, h.1)), λ h. absurd (omega (arith, h.2)))
 
 -- one row more gives its links
-pub links_more : (rows : List EdgeRow) (directed : Bool) (i : ℕ) (row : EdgeRow) (before after : List (LinkOf ℤ)) → slice_get rows i ≡ Some row → AreLinksOf (take i rows) directed before → ((link : LinkOf ℤ) → Contains after link ↔ (Contains before link ⊎ IsLinkOfRow directed row link)) → AreLinksOf (take (i + 1) rows) directed after
+pub links_more : (rows : List EdgeRow) (directed : Bool) (i : ℕ) (row : EdgeRow) (before after : List (LinkOf ℤ)) → slice_get rows i ≡ Some row
+    → AreLinksOf (take i rows) directed before → ((link : LinkOf ℤ) → Contains after link ↔ (Contains before link ⊎ IsLinkOfRow directed row link))
+    → AreLinksOf (take (i + 1) rows) directed after
 unfolding AreLinksOf
 links_more rows directed i row before after here are step link =
     let P : EdgeRow → Type 0 = λ r. IsLinkOfRow directed r link in
@@ -73,14 +75,17 @@ module _ (same : LinkOf ℤ → LinkOf ℤ → Bool) (ties : (x y : LinkOf ℤ) 
   }
 
   -- a sort and a `dedup` keep the links
-  pub links_kept : (rows : List EdgeRow) (directed : Bool) (i : ℕ) (links sorted last : List (LinkOf ℤ)) → length rows ≤ i → AreLinksOf (take i rows) directed links → IsPermutation links sorted → last ≡ dedup same sorted → (link : LinkOf ℤ) → Contains last link ↔ IsLinkOfTable rows directed link
+  pub links_kept : (rows : List EdgeRow) (directed : Bool) (i : ℕ) (links sorted last : List (LinkOf ℤ)) → length rows ≤ i
+      → AreLinksOf (take i rows) directed links → IsPermutation links sorted → last ≡ dedup same sorted → (link : LinkOf ℤ)
+      → Contains last link ↔ IsLinkOfTable rows directed link
   unfolding AreLinksOf
   links_kept rows directed i links sorted last past are moved last_is link =
       let P : List (LinkOf ℤ) → Type 0 = λ ls. Contains ls link in
       let Q : List EdgeRow → Type 0 = λ rs. IsLinkOfTable rs directed link in
       let all = take_all i rows past in (
         λ h. subst Q all ((are link).0 (Contains-permutation sorted links link (IsPermutation-sym links sorted moved) (Contains-from_dedup same sorted link (subst P last_is h)))),
-        λ h. subst P (sym last_is) (Contains-dedup same_equivalence same_is_equality sorted link (Contains-permutation links sorted link moved ((are link).1 (subst Q (sym all) h)))),
+        λ h. subst P (sym last_is) (Contains-dedup same_equivalence same_is_equality sorted link (Contains-permutation links sorted link moved
+            ((are link).1 (subst Q (sym all) h)))),
       )
 
   -- and leave them rising strictly

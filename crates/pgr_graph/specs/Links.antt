@@ -5,7 +5,8 @@ use Rattle.pgr_table.specs.declared.row.EdgeRow.{EdgeRow}
 use Rattle.pgr_graph.specs.declared.links.Direction.{Direction}
 use Rattle.pgr_graph.specs.declared.links.Direction.TheVariants.{Forward, Backward}
 
--- the row stands with this cost in the direction: in the directed graph forward with its cost and backward with its reverse cost, in the undirected graph both ways with each; a cost that is negative is none
+-- the row stands with this cost in the direction: in the directed graph forward with its cost and backward with its reverse cost, in the undirected
+-- graph both ways with each; a cost that is negative is none
 abbrev pub HasSense : Bool → EdgeRow → Direction → ℕ → Type 0
 HasSense true row Forward cost = row.cost ≡ pos cost
 HasSense true row Backward cost = row.reverse_cost ≡ pos cost

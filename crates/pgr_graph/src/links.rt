@@ -37,8 +37,10 @@ pub fn links_of(
     ensures rising { IfOk result (λ links. IsStrictlyRising (link_cmp int_cmp) links.items) }
     ensures few { IfOk result (λ links. vec_len links ≤ 4 * length table.now) }
 {
-    let mut links = Vec::new(alloc);
-    for i in 0..table.len() {
+    let rows = table.len();
+    let most = if directed { 2 * rows } else { 4 * rows };
+    let mut links = Vec::with_capacity(alloc, most)?;
+    for i in 0..rows {
         push_links_of(&mut links, table.row(i), directed)?;
     }
     links.sort_unstable();
@@ -46,26 +48,29 @@ pub fn links_of(
     Ok(links)
 }
 
-// Appends the links that the row gives.
+/// Appends the links that the row gives.
 fn push_links_of(links: &mut Vec<NamedLink>, row: EdgeRow, directed: bool) -> Result<(), NoMemory>
     ensures links { OnOk result
         ((link : LinkOf ℤ) → Contains links.new.items link ↔ (Contains links.old.items link ⊎ IsLinkOfRow directed row link)) }
     ensures few { OnOk result (vec_len links.new ≤ vec_len links.old + 4) }
 {
-    push(links, link_along(row, Direction::Forward, row.cost))?;
+    push(links, link_of_sense(row, Direction::Forward, row.cost))?;
     push(
         links,
-        link_along(row, Direction::Backward, row.reverse_cost),
+        link_of_sense(row, Direction::Backward, row.reverse_cost),
     )?;
     if !directed {
-        push(links, link_along(row, Direction::Backward, row.cost))?;
-        push(links, link_along(row, Direction::Forward, row.reverse_cost))?;
+        push(links, link_of_sense(row, Direction::Backward, row.cost))?;
+        push(
+            links,
+            link_of_sense(row, Direction::Forward, row.reverse_cost),
+        )?;
     }
     Ok(())
 }
 
-// The link along the row with the cost, or none where the cost is negative.
-fn link_along(row: EdgeRow, direction: Direction, cost: i64) -> Option<NamedLink>
+/// The link along the row with the cost, or none where the cost is negative.
+fn link_of_sense(row: EdgeRow, direction: Direction, cost: i64) -> Option<NamedLink>
     ensures { result ≡ link_of_sense row direction cost }
 {
     let cost = u64::try_from(cost).ok()?;
@@ -81,13 +86,13 @@ fn link_along(row: EdgeRow, direction: Direction, cost: i64) -> Option<NamedLink
     })
 }
 
-// Appends the link, if there is one.
+/// Appends the link, if there is one.
 fn push(links: &mut Vec<NamedLink>, link: Option<NamedLink>) -> Result<(), NoMemory>
     ensures items { OnOk result (links.new.items ≡ links.old.items ++ option_to_list link) }
     ensures few { OnOk result (vec_len links.new ≤ vec_len links.old + 1) }
 {
     if let Some(link) = link {
-        links.push(link).map_err(|_| NoMemory)?;
+        links.push(link)?;
     }
     Ok(())
 }

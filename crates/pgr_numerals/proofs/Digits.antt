@@ -29,7 +29,8 @@ digit_value-digit byte h = grind (arith, nat_tests)
 grew : (most value byte next : ℕ) → grown most value byte ≡ Some next → (is_digit byte ≡ true) × (value * 10 + (byte - 48) ≤ most) × (next ≡ value * 10 + (byte - 48))
 grew most value byte next = by (is_digit byte) (nat_le (value * 10 + (byte - 48)) most) (leb-true _ _)
   where
-    by : (d w : Bool) → (w ≡ true → value * 10 + (byte - 48) ≤ most) → (if d && w then Some (value * 10 + (byte - 48)) else None) ≡ Some next → (d ≡ true) × (value * 10 + (byte - 48) ≤ most) × (next ≡ value * 10 + (byte - 48))
+    by : (d w : Bool) → (w ≡ true → value * 10 + (byte - 48) ≤ most) → (if d && w then Some (value * 10 + (byte - 48)) else None) ≡ Some next
+        → (d ≡ true) × (value * 10 + (byte - 48) ≤ most) × (next ≡ value * 10 + (byte - 48))
     by true true w e = (refl, w refl, cc)
     by true false w e = cc
     by false true w e = cc
@@ -39,18 +40,21 @@ grew most value byte next = by (is_digit byte) (nat_le (value * 10 + (byte - 48)
 stopped : (most value byte : ℕ) → grown most value byte ≡ None → (is_digit byte ≡ false) ⊎ ((is_digit byte ≡ true) × (most < value * 10 + (byte - 48)))
 stopped most value byte = by (is_digit byte) (nat_le (value * 10 + (byte - 48)) most) (leb-false _ _)
   where
-    by : (d w : Bool) → (w ≡ false → most < value * 10 + (byte - 48)) → (if d && w then Some (value * 10 + (byte - 48)) else None) ≡ None → (d ≡ false) ⊎ ((d ≡ true) × (most < value * 10 + (byte - 48)))
+    by : (d w : Bool) → (w ≡ false → most < value * 10 + (byte - 48)) → (if d && w then Some (value * 10 + (byte - 48)) else None) ≡ None
+        → (d ≡ false) ⊎ ((d ≡ true) × (most < value * 10 + (byte - 48)))
     by true true w e = cc
     by true false w e = inr (refl, w refl)
     by false true w e = inl refl
     by false false w e = inl refl
 
 -- the value with one more digit
-value_more : (most value : ℕ) (bytes : List ℕ) (i : ℕ) → i < length bytes → Wrote most (take i bytes) value → is_digit (get_or bytes i 0) ≡ true → digits_value 10 (take (i + 1) bytes) ≡ value * 10 + (get_or bytes i 0 - 48)
+value_more : (most value : ℕ) (bytes : List ℕ) (i : ℕ) → i < length bytes → Wrote most (take i bytes) value → is_digit (get_or bytes i 0) ≡ true
+    → digits_value 10 (take (i + 1) bytes) ≡ value * 10 + (get_or bytes i 0 - 48)
 value_more most value bytes i h wrote digit = rw (digits_value_more 10 bytes i h, digit_value-digit (get_or bytes i 0) digit, ← wrote.value_is) refl
 
 -- one more digit
-pub more : (most value next : ℕ) (bytes : List ℕ) (i : ℕ) → i < length bytes → Wrote most (take i bytes) value → grown most value (get_or bytes i 0) ≡ Some next → Wrote most (take (i + 1) bytes) next
+pub more : (most value next : ℕ) (bytes : List ℕ) (i : ℕ) → i < length bytes → Wrote most (take i bytes) value → grown most value (get_or bytes i 0) ≡ Some next
+    → Wrote most (take (i + 1) bytes) next
 more most value next bytes i h wrote e =
     let g = grew most value (get_or bytes i 0) next e in
     record {
@@ -72,7 +76,8 @@ refused most (byte ∷ bytes) (inr e) = by (list_all is_digit (byte ∷ bytes)) 
     by false false w = refl
 
 -- a byte that is no digit, or that takes the number above the limit, leaves no number
-pub none : (most value : ℕ) (bytes : List ℕ) (i : ℕ) → i < length bytes → Wrote most (take i bytes) value → grown most value (get_or bytes i 0) ≡ None → digits_up_to most bytes ≡ None
+pub none : (most value : ℕ) (bytes : List ℕ) (i : ℕ) → i < length bytes → Wrote most (take i bytes) value → grown most value (get_or bytes i 0) ≡ None
+    → digits_up_to most bytes ≡ None
 none most value bytes i h wrote e = elim (stopped most value (get_or bytes i 0) e) [
   | inl odd ↦ refused most bytes (inl (list_all_at is_digit bytes i 0 h odd))
   | inr above ↦ refused most bytes (inr (omega (arith, above.1, value_more most value bytes i h wrote above.0, digits_value-take-le 10 bytes (i + 1) (omega arith))))

@@ -13,7 +13,8 @@ all_of-push [] xs x e = let same : xs ≡ [] = cc in ap (λ ys. Some (ys ++ x �
 all_of-push (None ∷ os) xs x e = cc
 all_of-push {X} (Some y ∷ os) xs x e = by (all_of os) (λ ys. all_of-push os ys x) refl e
   where
-    by : (r : Option (List X)) → ((ys : List X) → all_of os ≡ Some ys → all_of (os ++ Some x ∷ []) ≡ Some (ys ++ x ∷ [])) → all_of os ≡ r → option_map (λ ys. y ∷ ys) r ≡ Some xs → option_map (λ ys. y ∷ ys) (all_of (os ++ Some x ∷ [])) ≡ Some (xs ++ x ∷ [])
+    by : (r : Option (List X)) → ((ys : List X) → all_of os ≡ Some ys → all_of (os ++ Some x ∷ []) ≡ Some (ys ++ x ∷ [])) → all_of os ≡ r
+        → option_map (λ ys. y ∷ ys) r ≡ Some xs → option_map (λ ys. y ∷ ys) (all_of (os ++ Some x ∷ [])) ≡ Some (xs ++ x ∷ [])
     by None later is f = cc
     by (Some ys) later is f = let more = later ys is in let same : xs ≡ y ∷ ys = cc in rw (more, same) refl
 
@@ -42,7 +43,9 @@ pub none_read : (most : ℕ) (bytes : List ℕ) → AreRead most 0 bytes []
 none_read most bytes = record { so_far = refl; count = refl; within = omega arith }
 
 -- one more part
-pub more_read : (most n : ℕ) (bytes : List ℕ) (numbers after : List ℤ) (part : List ℕ) (number : ℤ) → AreRead most n bytes numbers → n < most → (n < length (slice_split is_comma bytes)) × (part ≡ get_or (slice_split is_comma bytes) n part) → i64_of part ≡ Some number → after ≡ numbers ++ number ∷ [] → AreRead most (n + 1) bytes after
+pub more_read : (most n : ℕ) (bytes : List ℕ) (numbers after : List ℤ) (part : List ℕ) (number : ℤ) → AreRead most n bytes numbers → n < most
+    → (n < length (slice_split is_comma bytes)) × (part ≡ get_or (slice_split is_comma bytes) n part) → i64_of part ≡ Some number
+    → after ≡ numbers ++ number ∷ [] → AreRead most (n + 1) bytes after
 more_read most n bytes numbers after part number read room here is added =
     let parts = slice_split is_comma bytes in
     let is_read : i64_of (get_or parts n part) ≡ Some number = ap i64_of (sym here.1) ∙ is in
@@ -54,7 +57,8 @@ more_read most n bytes numbers after part number read room here is added =
     }
 
 -- a part that is no number
-pub part_refused : (most n : ℕ) (bytes part : List ℕ) → (n < length (slice_split is_comma bytes)) × (part ≡ get_or (slice_split is_comma bytes) n part) → i64_of part ≡ None → i64_list_of most bytes ≡ None
+pub part_refused : (most n : ℕ) (bytes part : List ℕ) → (n < length (slice_split is_comma bytes)) × (part ≡ get_or (slice_split is_comma bytes) n part)
+    → i64_of part ≡ None → i64_list_of most bytes ≡ None
 part_refused most n bytes part here is = by (nat_le (length parts) most) (all_of-none i64_of parts n part here.0 (ap i64_of (sym here.1) ∙ is))
   where
     parts : List (List ℕ)

@@ -14,7 +14,8 @@ length-all_of [] xs e = let same : xs ≡ [] = cc in rw same refl
 length-all_of (None ∷ os) xs e = cc
 length-all_of {X} (Some x ∷ os) xs e = by (all_of os) (length-all_of os) refl e
   where
-    by : (rest : Option (List X)) → ((ys : List X) → all_of os ≡ Some ys → length ys ≡ length os) → all_of os ≡ rest → option_map (λ ys. x ∷ ys) rest ≡ Some xs → length xs ≡ length (Some x ∷ os)
+    by : (rest : Option (List X)) → ((ys : List X) → all_of os ≡ Some ys → length ys ≡ length os) → all_of os ≡ rest → option_map (λ ys. x ∷ ys) rest ≡ Some xs
+        → length xs ≡ length (Some x ∷ os)
     by None later is f = cc
     by (Some ys) later is f = let more = later ys is in let same : xs ≡ x ∷ ys = cc in rw same (omega (arith, more))
 
@@ -22,7 +23,8 @@ length-all_of {X} (Some x ∷ os) xs e = by (all_of os) (length-all_of os) refl 
 pub length-i64_list_of : (most : ℕ) (bytes : List ℕ) (numbers : List ℤ) → i64_list_of most bytes ≡ Some numbers → (0 < length numbers) × (length numbers ≤ most)
 length-i64_list_of most bytes numbers = by (nat_le (length (slice_split is_comma bytes)) most) (leb-true (length (slice_split is_comma bytes)) most)
   where
-    by : (b : Bool) → (b ≡ true → length (slice_split is_comma bytes) ≤ most) → (if b then all_of (map i64_of (slice_split is_comma bytes)) else None) ≡ Some numbers → (0 < length numbers) × (length numbers ≤ most)
+    by : (b : Bool) → (b ≡ true → length (slice_split is_comma bytes) ≤ most)
+        → (if b then all_of (map i64_of (slice_split is_comma bytes)) else None) ≡ Some numbers → (0 < length numbers) × (length numbers ≤ most)
     by true within e =
         let count = length-all_of (map i64_of (slice_split is_comma bytes)) numbers e in
         let places = length-map (slice_split is_comma bytes) i64_of in

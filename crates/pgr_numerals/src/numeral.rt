@@ -43,7 +43,7 @@ pub fn read_id(bytes: &[u8]) -> Option<i64>
     i64::try_from(id).ok()
 }
 
-// The number with one more digit behind it, or none where the byte is no digit or the number is above `most`.
+/// The number with one more digit behind it, or none where the byte is no digit or the number is above `most`.
 fn with_digit(value: u64, byte: u8, most: u64) -> Option<u64>
     ensures { let grown = value * 10 + (byte - 48) in
         result ≡ (if is_digit byte && nat_le grown most then Some grown else None) }

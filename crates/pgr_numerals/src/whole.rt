@@ -31,7 +31,7 @@ pub fn read_whole_or_empty(bytes: &[u8]) -> Option<i64>
     read_whole(bytes)
 }
 
-// The place of the first full stop.
+/// The place of the first full stop.
 fn full_stop(bytes: &[u8]) -> Option<usize>
     ensures place { result ≡ position (λ b. b == 46) bytes.now }
     ensures within { IfSome result (λ stop. stop < length bytes.now) }
@@ -39,14 +39,14 @@ fn full_stop(bytes: &[u8]) -> Option<usize>
     bytes.iter().position(|byte| *byte == b'.')
 }
 
-// Whether the bytes are zeros, and at least one.
+/// Whether the bytes are zeros, and at least one.
 fn are_only_zeros(bytes: &[u8]) -> bool
     ensures { result ≡ are_zeros bytes.now }
 {
     !bytes.is_empty() && have_no_other(bytes)
 }
 
-// Whether no byte is another than `0`.
+/// Whether no byte is another than `0`.
 fn have_no_other(bytes: &[u8]) -> bool
     ensures { result ≡ list_all (λ b. b == 48) bytes.now }
 {

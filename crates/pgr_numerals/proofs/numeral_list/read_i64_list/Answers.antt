@@ -13,20 +13,26 @@ loop-part-init c = rw c.new-numbers.ensures.items (none_read c.args.most c.args.
 
 pub returns-then-len-most : goal.returns-then-len-most
 returns-then-len-most c =
-    let turn = YieldsList-turn (YieldsList-from_slice_split _ is_comma c.args.bytes.now (search rules) (search rules) (search rules) (λ x b q k. search rules)) c.loop-part.yielded _ c.loop-part.yielded_by _ _ c.in-Some.part c.in-Some.is c.next.ensures.steps in
+    let turn = YieldsList-turn (YieldsList-from_slice_split _ is_comma c.args.bytes.now (search rules) (search rules) (search rules) (λ x b q k. search rules))
+    c.loop-part.yielded _ c.loop-part.yielded_by _ _ c.in-Some.part c.in-Some.is c.next.ensures.steps in
     sym (too_many c.args.most (length c.loop-part.yielded) c.args.bytes.now turn.0 (search rules))
 
 pub returns-in_default : goal.returns-in_default
 returns-in_default c =
-    let turn = YieldsList-turn (YieldsList-from_slice_split _ is_comma c.args.bytes.now (search rules) (search rules) (search rules) (λ x b q k. search rules)) c.loop-part.yielded _ c.loop-part.yielded_by _ _ c.in-Some.part c.in-Some.is c.next.ensures.steps in
+    let turn = YieldsList-turn (YieldsList-from_slice_split _ is_comma c.args.bytes.now (search rules) (search rules) (search rules) (λ x b q k. search rules))
+    c.loop-part.yielded _ c.loop-part.yielded_by _ _ c.in-Some.part c.in-Some.is c.next.ensures.steps in
     sym (part_refused c.args.most (length c.loop-part.yielded) c.args.bytes.now c.in-Some.part.now turn (sym c.read_i64.ensures ∙ c.in_default.is))
 
 pub loop-part-preserved : goal.loop-part-preserved
 loop-part-preserved c =
-    let turn = YieldsList-turn (YieldsList-from_slice_split _ is_comma c.args.bytes.now (search rules) (search rules) (search rules) (λ x b q k. search rules)) c.loop-part.yielded _ c.loop-part.yielded_by _ _ c.in-Some.part c.in-Some.is c.next.ensures.steps in
-    rw length_push (more_read c.args.most (length c.loop-part.yielded) c.args.bytes.now c.loop-part.numbers.items c.push.new.self.items c.in-Some.part.now c.in-Some-read_i64.number c.loop-part.invariant (search rules) turn (sym c.read_i64.ensures ∙ c.in-Some-read_i64.is) (first_of (search rules, grind (arith, common_steps), search (rules, ints, to_z-of_z))))
+    let turn = YieldsList-turn (YieldsList-from_slice_split _ is_comma c.args.bytes.now (search rules) (search rules) (search rules) (λ x b q k. search rules))
+    c.loop-part.yielded _ c.loop-part.yielded_by _ _ c.in-Some.part c.in-Some.is c.next.ensures.steps in
+    rw length_push (more_read c.args.most (length c.loop-part.yielded) c.args.bytes.now c.loop-part.numbers.items c.push.new.self.items c.in-Some.part.now
+    c.in-Some-read_i64.number c.loop-part.invariant (search rules) turn (sym c.read_i64.ensures ∙ c.in-Some-read_i64.is)
+    (first_of (search rules, grind (arith, common_steps), search (rules, ints, to_z-of_z))))
 
 pub returns : goal.returns
 returns c =
-    let end = YieldsList-end (YieldsList-from_slice_split _ is_comma c.args.bytes.now (search rules) (search rules) (search rules) (λ x b q k. search rules)) c.loop-part.yielded _ c.loop-part.yielded_by _ _ c.in-None.is c.next.ensures.steps in
+    let end = YieldsList-end (YieldsList-from_slice_split _ is_comma c.args.bytes.now (search rules) (search rules) (search rules) (λ x b q k. search rules))
+    c.loop-part.yielded _ c.loop-part.yielded_by _ _ c.in-None.is c.next.ensures.steps in
     sym (all_read c.args.most (length c.loop-part.yielded) c.args.bytes.now c.loop-part.numbers.items c.loop-part.invariant end.1)
