@@ -53,7 +53,8 @@ pub AreEnds-dedup : (links : List (LinkOf ℤ)) (sorted : List ℤ) → IsPermut
 AreEnds-dedup links sorted moved in_order = record {
   rise = IsStrictlyRising-dedup sorted in_order;
   ends = λ id. (
-    (λ there. ends_from links id (record { from = id; edge = id; cost = 0; to = id }) (Contains-permutation _ _ id (IsPermutation-sym _ _ moved) (Contains-from_dedup int_eq sorted id there))),
+    (λ there. ends_from links id (record { from = id; edge = id; cost = 0; to = id }) (Contains-permutation _ _ id (IsPermutation-sym _ _ moved)
+        (Contains-from_dedup int_eq sorted id there))),
     (λ end. Contains-dedup int_eq_equiv (λ x y. (signed_Decides x y).0) sorted id (Contains-permutation _ _ id moved (ends_to links id end))),
   );
 }
@@ -68,5 +69,6 @@ All-named links names h k d inside =
 pub length_names : (links : List (LinkOf ℤ)) (names : List ℤ) → AreEnds links names → length names ≤ 2 * length links
 length_names links names h =
     let apart = IsDistinct-from_apart int_eq names (λ i j d before inside. ap is_eq (h.rise i j d before inside)) in
-    let fewer = length-le_from_is_member int_eq_equiv names (ends_in_turn links) apart (λ id there. list_any-from_Contains int_eq_equiv id (ends_in_turn links) (ends_to links id ((h.ends id).0 (Contains-from_any (λ x y. (signed_Decides x y).0) id names there)))) in
+    let fewer = length-le_from_is_member int_eq_equiv names (ends_in_turn links) apart (λ id there. list_any-from_Contains int_eq_equiv id (ends_in_turn links)
+    (ends_to links id ((h.ends id).0 (Contains-from_any (λ x y. (signed_Decides x y).0) id names there)))) in
     omega (arith, simp (length-append, length-map) at fewer)

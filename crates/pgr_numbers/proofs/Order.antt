@@ -51,7 +51,8 @@ module _ (names : List ℤ) (rise : IsStrictlyRising int_cmp names) where
       ap (λ last. ordering_then (int_cmp a.edge b.edge) (ordering_then (nat_cmp a.cost b.cost) last)) (int_cmp-id_at a.to b.to a_ends.1 b_ends.1)
 
   -- so do lists of links
-  steps-named : (walk other : List (LinkOf ℕ)) → AllByRecursion (IsNumbered names) walk → AllByRecursion (IsNumbered names) other → slice_cmp (step_cmp int_cmp) (map (named names) walk) (map (named names) other) ≡ slice_cmp (step_cmp nat_cmp) walk other
+  steps-named : (walk other : List (LinkOf ℕ)) → AllByRecursion (IsNumbered names) walk → AllByRecursion (IsNumbered names) other
+      → slice_cmp (step_cmp int_cmp) (map (named names) walk) (map (named names) other) ≡ slice_cmp (step_cmp nat_cmp) walk other
   steps-named [] [] walk_ends other_ends = refl
   steps-named [] (b ∷ other) walk_ends other_ends = refl
   steps-named (a ∷ walk) [] walk_ends other_ends = refl
@@ -60,12 +61,14 @@ module _ (names : List ℤ) (rise : IsStrictlyRising int_cmp names) where
       ∙ ap (λ rest. ordering_then (step_cmp nat_cmp a b) rest) (steps-named walk other walk_ends.1 other_ends.1)
 
   -- and walks
-  pub route_cmp-named : (walk other : List (LinkOf ℕ)) → AllByRecursion (IsNumbered names) walk → AllByRecursion (IsNumbered names) other → route_cmp int_cmp (map (named names) walk) (map (named names) other) ≡ route_cmp nat_cmp walk other
+  pub route_cmp-named : (walk other : List (LinkOf ℕ)) → AllByRecursion (IsNumbered names) walk → AllByRecursion (IsNumbered names) other
+      → route_cmp int_cmp (map (named names) walk) (map (named names) other) ≡ route_cmp nat_cmp walk other
   route_cmp-named walk other walk_ends other_ends =
       rw (cost_of-named names walk, cost_of-named names other, hops_of-named names walk, hops_of-named names other, steps-named walk other walk_ends other_ends)
 
   -- no two lists of numbered links stand for one
-  pub map_one_to_one : (walk other : List (LinkOf ℕ)) → AllByRecursion (IsNumbered names) walk → AllByRecursion (IsNumbered names) other → map (named names) walk ≡ map (named names) other → walk ≡ other
+  pub map_one_to_one : (walk other : List (LinkOf ℕ)) → AllByRecursion (IsNumbered names) walk → AllByRecursion (IsNumbered names) other
+      → map (named names) walk ≡ map (named names) other → walk ≡ other
   map_one_to_one [] [] walk_ends other_ends same = refl
   map_one_to_one [] (b ∷ other) walk_ends other_ends same = cc
   map_one_to_one (a ∷ walk) [] walk_ends other_ends same = cc

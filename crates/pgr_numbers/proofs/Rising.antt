@@ -36,7 +36,8 @@ absent ids id place parts (k, inside, is) =
     (cases_lt k place)
 
 -- an id that a binary search of a list that rises doesn't find isn't in it
-pub absent_from_search : (ids : List ℤ) (id asked : ℤ) (place : ℕ) → asked ≡ id → IsStrictlyRising int_cmp ids → IsBinarySearchResult (λ other. int_cmp other asked) ids (Err place) → Contains ids id → ⊥
+pub absent_from_search : (ids : List ℤ) (id asked : ℤ) (place : ℕ) → asked ≡ id → IsStrictlyRising int_cmp ids
+    → IsBinarySearchResult (λ other. int_cmp other asked) ids (Err place) → Contains ids id → ⊥
 absent_from_search ids id asked place same rise found there =
     let searchable = searchable_from_sorted int_cmp_total (λ other. other) ids asked (IsSorted-rising ids rise) in
     absent ids asked place (found searchable) (subst (Contains ids) (sym same) there)

@@ -9,17 +9,22 @@ use Rattle.pgr_numbers.specs.Names.{AreNumbered, IsNumbered, named}
 -- two links with the same parts are the same
 pub same_link : {V : Type 0} (a b : LinkOf V) → a.from ≡ b.from → a.edge ≡ b.edge → a.cost ≡ b.cost → a.to ≡ b.to → a ≡ b
 same_link a b from edge cost to =
-    ap (λ x. record a { from = x }) from ∙ (ap (λ x. record a { from = b.from; edge = x }) edge ∙ (ap (λ x. record b { cost = x; to = a.to }) cost ∙ ap (λ x. record b { to = x }) to))
+    ap (λ x. record a { from = x }) from ∙ (ap (λ x. record a { from = b.from; edge = x }) edge ∙ (ap (λ x. record b { cost = x; to = a.to }) cost ∙ ap
+    (λ x. record b { to = x }) to))
 
 -- a link between the numbers of the ends of a link stands for it
-pub named_link : (names : List ℤ) (link : LinkOf ℤ) (m n : ℕ) (edge : ℤ) → slice_get names m ≡ Some link.from → slice_get names n ≡ Some link.to → edge ≡ link.edge → named names (record { from = m; edge = edge; cost = link.cost; to = n }) ≡ link
+pub named_link : (names : List ℤ) (link : LinkOf ℤ) (m n : ℕ) (edge : ℤ) → slice_get names m ≡ Some link.from → slice_get names n ≡ Some link.to
+    → edge ≡ link.edge → named names (record { from = m; edge = edge; cost = link.cost; to = n }) ≡ link
 named_link names link m n edge from to same =
     same_link _ link (get_or_from_slice_get names m link.from (pos 0) from) same refl (get_or_from_slice_get names n link.to (pos 0) to)
 
 -- one more link
-pub AreNumbered-more : (names : List ℤ) (links : List (LinkOf ℤ)) (numbers : List (LinkOf ℕ)) (i : ℕ) (d : LinkOf ℤ) (number : LinkOf ℕ) → i < length links → AreNumbered names (take i links) numbers → named names number ≡ get_or links i d → IsNumbered names number → AreNumbered names (take (i + 1) links) (numbers ++ number ∷ [])
+pub AreNumbered-more : (names : List ℤ) (links : List (LinkOf ℤ)) (numbers : List (LinkOf ℕ)) (i : ℕ) (d : LinkOf ℤ) (number : LinkOf ℕ) → i < length links
+    → AreNumbered names (take i links) numbers → named names number ≡ get_or links i d → IsNumbered names number
+    → AreNumbered names (take (i + 1) links) (numbers ++ number ∷ [])
 AreNumbered-more names links numbers i d number inside before same ends = record {
   rise = before.rise;
-  same = map_push (named names) numbers number ∙ (ap (λ xs. xs ++ named names number ∷ []) before.same ∙ (ap (λ x. take i links ++ x ∷ []) same ∙ sym (take_more links i d inside)));
+  same = map_push (named names) numbers number ∙ (ap (λ xs. xs ++ named names number ∷ []) before.same ∙ (ap (λ x. take i links ++ x ∷ []) same ∙ sym
+      (take_more links i d inside)));
   ends = All-push (IsNumbered names) numbers number before.ends ends;
 }

@@ -17,7 +17,8 @@ use Rattle.pgr_numbers.proofs.EndLemmas.{Contains-map, Contains-from_map}
 use Rattle.pgr_numbers.proofs.Order.{id_at_one_to_one, named_one_to_one, map_one_to_one, route_cmp-named, cost_of-named}
 
 -- images of elements that differ differ, so a list without repeats has images without repeats
-IsWithoutRepeats-map : {X Y : Type 0} (f : X → Y) (P : X → Type 0) → ((x y : X) → P x → P y → f x ≡ f y → x ≡ y) → (xs : List X) (d : X) → All P xs → IsWithoutRepeats xs → IsWithoutRepeats (map f xs)
+IsWithoutRepeats-map : {X Y : Type 0} (f : X → Y) (P : X → Type 0) → ((x y : X) → P x → P y → f x ≡ f y → x ≡ y) → (xs : List X) (d : X) → All P xs
+    → IsWithoutRepeats xs → IsWithoutRepeats (map f xs)
 IsWithoutRepeats-map f P one_to_one xs d all once i j before inside same =
     let j_inside : j < length xs = rw length-map at inside in
     let i_inside : i < length xs = omega arith in
@@ -80,10 +81,12 @@ module _ (names : List ℤ) (links : List (LinkOf ℤ)) (numbers : List (LinkOf 
   pub once_named : IsWithoutRepeats numbers → IsWithoutRepeats links
   once_named once =
       subst IsWithoutRepeats numbered.same
-      (IsWithoutRepeats-map (named names) (IsNumbered names) (named_one_to_one names numbered.rise) numbers (record { from = 0; edge = pos 0; cost = 0; to = 0 }) numbered.ends once)
+      (IsWithoutRepeats-map (named names) (IsNumbered names) (named_one_to_one names numbered.rise) numbers
+      (record { from = 0; edge = pos 0; cost = 0; to = 0 }) numbered.ends once)
 
   -- a walk by ids between names is what some walk by numbers stands for
-  pub numbered_walk : (s t : ℕ) (walk : List (LinkOf ℤ)) → s < length names → t < length names → IsWalk (Contains links) (id_at names s) walk (id_at names t) → (numbered_links : List (LinkOf ℕ)) × IsNumberedWalk names numbers s t walk numbered_links
+  pub numbered_walk : (s t : ℕ) (walk : List (LinkOf ℤ)) → s < length names → t < length names → IsWalk (Contains links) (id_at names s) walk (id_at names t)
+      → (numbered_links : List (LinkOf ℕ)) × IsNumberedWalk names numbers s t walk numbered_links
   numbered_walk s t [] s_below t_below leads = ([], record { is_walk = id_at_one_to_one names numbered.rise s t s_below t_below leads; same = refl })
   numbered_walk s t (link ∷ rest) s_below t_below leads =
       let found = number_of link leads.0 in
@@ -105,12 +108,14 @@ module _ (names : List ℤ) (links : List (LinkOf ℤ)) (numbers : List (LinkOf 
       map_one_to_one names numbered.rise a b (walk_ends s t a a_is.is_walk) (walk_ends s t b b_is.is_walk) (a_is.same ∙ sym b_is.same)
 
   -- a loopless route by numbers stands for a loopless route by ids
-  IsLooplessRoute-named : (s t : ℕ) (walk : List (LinkOf ℕ)) → s < length names → IsLooplessRoute (Contains numbers) s walk t → IsLooplessRoute (Contains links) (id_at names s) (map (named names) walk) (id_at names t)
+  IsLooplessRoute-named : (s t : ℕ) (walk : List (LinkOf ℕ)) → s < length names → IsLooplessRoute (Contains numbers) s walk t
+      → IsLooplessRoute (Contains links) (id_at names s) (map (named names) walk) (id_at names t)
   IsLooplessRoute-named s t walk below route = record {
     is_walk = IsWalk-named s t walk route.is_walk;
     ends_differ = λ same. route.ends_differ (id_at_one_to_one names numbered.rise s t below (end_below s t walk below route.is_walk) same);
     loopless = subst IsWithoutRepeats (vertices_of-named names s walk)
-        (IsWithoutRepeats-map (id_at names) (λ v. v < length names) (id_at_one_to_one names numbered.rise) (vertices_of s walk) 0 (All-from_recursion (λ v. v < length names) (vertices_of s walk) (vertices_below s t walk below (walk_ends s t walk route.is_walk))) route.loopless);
+        (IsWithoutRepeats-map (id_at names) (λ v. v < length names) (id_at_one_to_one names numbered.rise) (vertices_of s walk) 0
+        (All-from_recursion (λ v. v < length names) (vertices_of s walk) (vertices_below s t walk below (walk_ends s t walk route.is_walk))) route.loopless);
   }
 
   -- a route between different ends begins at a number
@@ -130,7 +135,10 @@ module _ (names : List ℤ) (links : List (LinkOf ℤ)) (numbers : List (LinkOf 
   }
 
   -- of some walks by numbers and the walks by ids that they stand for, the least stands for the least
-  pub IsLeast-turned : (P : List (LinkOf ℕ) → Type 0) (Q : List (LinkOf ℤ) → Type 0) → ((walk : List (LinkOf ℕ)) → P walk → AllByRecursion (IsNumbered names) walk × Q (map (named names) walk)) → ((walk : List (LinkOf ℤ)) → Q walk → (turned : List (LinkOf ℕ)) × P turned × (map (named names) turned ≡ walk)) → (walk : List (LinkOf ℕ)) → IsLeast nat_cmp P walk → IsLeast int_cmp Q (map (named names) walk)
+  pub IsLeast-turned : (P : List (LinkOf ℕ) → Type 0) (Q : List (LinkOf ℤ) → Type 0)
+      → ((walk : List (LinkOf ℕ)) → P walk → AllByRecursion (IsNumbered names) walk × Q (map (named names) walk))
+      → ((walk : List (LinkOf ℤ)) → Q walk → (turned : List (LinkOf ℕ)) × P turned × (map (named names) turned ≡ walk)) → (walk : List (LinkOf ℕ))
+      → IsLeast nat_cmp P walk → IsLeast int_cmp Q (map (named names) walk)
   IsLeast-turned P Q to from walk least = record {
     belongs = (to walk least.belongs).1;
     precedes = λ other leads differs.
@@ -141,7 +149,8 @@ module _ (names : List ℤ) (links : List (LinkOf ℤ)) (numbers : List (LinkOf 
   }
 
   -- the least walk by numbers stands for the least walk by ids
-  pub IsLeast-named : (s t : ℕ) (walk : List (LinkOf ℕ)) → s < length names → t < length names → IsLeast nat_cmp (λ w. IsWalk (Contains numbers) s w t) walk → IsLeast int_cmp (λ w. IsWalk (Contains links) (id_at names s) w (id_at names t)) (map (named names) walk)
+  pub IsLeast-named : (s t : ℕ) (walk : List (LinkOf ℕ)) → s < length names → t < length names → IsLeast nat_cmp (λ w. IsWalk (Contains numbers) s w t) walk
+      → IsLeast int_cmp (λ w. IsWalk (Contains links) (id_at names s) w (id_at names t)) (map (named names) walk)
   IsLeast-named s t walk s_below t_below least =
       IsLeast-turned (λ w. IsWalk (Contains numbers) s w t) (λ w. IsWalk (Contains links) (id_at names s) w (id_at names t))
       (λ w leads. (walk_ends s t w leads, IsWalk-named s t w leads))
@@ -150,7 +159,8 @@ module _ (names : List ℤ) (links : List (LinkOf ℤ)) (numbers : List (LinkOf 
       least
 
   -- where no walk is by numbers, none is by ids
-  pub none_named : (s t : ℕ) → s < length names → t < length names → ((walk : List (LinkOf ℕ)) → IsWalk (Contains numbers) s walk t → ⊥) → (walk : List (LinkOf ℤ)) → IsWalk (Contains links) (id_at names s) walk (id_at names t) → ⊥
+  pub none_named : (s t : ℕ) → s < length names → t < length names → ((walk : List (LinkOf ℕ)) → IsWalk (Contains numbers) s walk t → ⊥)
+      → (walk : List (LinkOf ℤ)) → IsWalk (Contains links) (id_at names s) walk (id_at names t) → ⊥
   none_named s t s_below t_below none walk leads =
       let found = numbered_walk s t walk s_below t_below leads in
       none found.0 found.1.is_walk

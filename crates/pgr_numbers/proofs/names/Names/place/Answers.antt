@@ -19,4 +19,5 @@ returns-in-Some-get-clause-place c =
     let is = c.in-Some.ensures.place in
     let look = c.in-Some-get.ensures.lookup in
     let at = rw c.deref.ensures.value at (slice_get-get_or c.deref.result.now c.in-Some.place c.in-Some-get.number.now look.3.0 ∙ ap Some (sym look.1)) in
-    rw (← c.self.view_is) (number-place c.self.inside.ids.items c.self.inside.numbers.items c.args.id c.in-Some.place c.in-Some-get.number.now c.self.invariant.2 (sym same ∙ is) at)
+    rw (← c.self.view_is) (number-place c.self.inside.ids.items c.self.inside.numbers.items c.args.id c.in-Some.place c.in-Some-get.number.now
+    c.self.invariant.2 (sym same ∙ is) at)
