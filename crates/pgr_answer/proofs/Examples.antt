@@ -16,14 +16,9 @@ use Rattle.pgr_answer.specs.Answers.{Answer, AreAnswers}
 use Rattle.pgr_answer.specs.Paths.{path_table}
 use Rattle.pgr_answer.specs.CostTables.{cost_row}
 
--- the values of a command with both files
-abbrev both_files : OptionName → Option (List ℕ)
-both_files option.Edges = Some (codes "e.csv")
-both_files option.Combinations = Some (codes "p.csv")
-both_files option.Start = None
-both_files option.End = None
-both_files option.Vids = None
-both_files option.Directed = None
+-- the options of a command with both files
+abbrev both_files : List (OptionName × List ℕ)
+both_files = (option.Edges, codes "e.csv") ∷ (option.Combinations, codes "p.csv") ∷ []
 
 -- the edges are read before the combinations
 the_edges_come_first : files_of (command_with Dijkstra both_files) ≡ record { role = Edges; name = codes "e.csv" } ∷ record { role = Combinations; name = codes "p.csv" } ∷ []

@@ -1,9 +1,11 @@
 mod SameOption
 mod Settings
-mod RisingLists
+mod RisingNumbers
+mod Filling
 mod Drafting
 mod WordByWord
 mod GoodWords
 mod WellFormedCommands
-mod Laws
+mod FirstFaults
+mod FieldsInForm
 mod Examples

@@ -1,47 +1,35 @@
--- Two options are one exactly where they are called the same.
-use Rattle.std.proofs.Common.{◌≡◌, ℕ, ◌||◌, List, [], ◌∷◌, Option, Some, refl, sym, ap, ◌∙◌, Decides, find}
-use Rattle.std.specs.Str.{bytes_eq}
-use Rattle.std.specs.List.{list_any}
+-- Two options are one where they are called the same, and that carries over.
+use Rattle.std.proofs.Common.{◌≡◌, Bool, true, false, ◌||◌, List, [], ◌∷◌, refl, ◌∙◌, Decides}
 use Rattle.std.proofs.lemmas.Slice.Eq.{bytes_eq-Decides}
-use Rattle.std.proofs.lemmas.Bool.Decides.{same_from_decides}
-use denote.Enum.Bare.{same_true, true_same}
-use Rattle.pgr_words.specs.contracts.option.OptionName.{the_type}
 use Rattle.pgr_words.specs.declared.option.OptionName.{OptionName}
-use Rattle.pgr_words.specs.declared.option.OptionName.TheVariants.{Edges, Combinations, Start, End, Vids, Directed}
-use Rattle.pgr_words.specs.contracts.option.OptionNamePartialEq.TheImpl as derived
 use Rattle.pgr_words.specs.Options.{name_of, is_same}
-use Rattle.pgr_words.specs.Words.{is_among}
+use Rattle.pgr_words.specs.Functions.{is_among}
 
--- the option that is called so
-abbrev called : List ℕ → Option OptionName
-called name = find (λ option. bytes_eq (name_of option) name) (Edges ∷ Combinations ∷ Start ∷ End ∷ Vids ∷ Directed ∷ [])
+pub is_same-Decides : (option other : OptionName) → Decides (is_same option other) (name_of option ≡ name_of other)
+is_same-Decides option other = bytes_eq-Decides (name_of option) (name_of other)
 
-called-name_of : (option : OptionName) → called (name_of option) ≡ Some option
-called-name_of Edges = refl
-called-name_of Combinations = refl
-called-name_of Start = refl
-called-name_of End = refl
-called-name_of Vids = refl
-called-name_of Directed = refl
+-- an option is itself
+pub is_same-refl : (option : OptionName) → is_same option option ≡ true
+is_same-refl option = (is_same-Decides option option).1 refl
 
--- no two options are called the same
-name_of-one : (option other : OptionName) → name_of option ≡ name_of other → option ≡ other
-name_of-one option other e =
-    let same : Some option ≡ Some other = sym (called-name_of option) ∙ ap called e ∙ called-name_of other in
-    cc
+-- what is said of one of two is said of the other
+pub is_same-along : (first option other : OptionName) → is_same option other ≡ true → is_same first option ≡ true → is_same first other ≡ true
+is_same-along first option other same before =
+    (is_same-Decides first other).1 ((is_same-Decides first option).0 before ∙ (is_same-Decides option other).0 same)
 
-pub is_same-Decides : (option other : OptionName) → Decides (is_same option other) (option ≡ other)
-is_same-Decides option other =
-    let by_name = bytes_eq-Decides (name_of option) (name_of other) in
-    (λ t. name_of-one option other (by_name.0 t), λ e. by_name.1 (ap name_of e))
+-- one of two is among some options where the other is
+pub is_among-along : (options : List OptionName) (option other : OptionName) → is_same option other ≡ true → is_among options option ≡ true → is_among options other ≡ true
+is_among-along [] option other same among = among
+is_among-along (first ∷ options) option other same among = by (is_same first option) refl among (is_among-along options option other same)
+  where
+    or_later : (b : Bool) → is_among options other ≡ true → (b || is_among options other) ≡ true
+    or_later true later = refl
+    or_later false later = later
 
--- what `==` answers of two options
-derived-Decides : (option other : OptionName) → Decides ((derived.ghosts).eq option other) (option ≡ other)
-derived-Decides option other = (same_true the_type tt option other, true_same the_type option other)
-
--- so `contains` answers whether an option is among some
-pub contains_is : (options : List OptionName) (option : OptionName) → list_any (λ other. (derived.ghosts).eq other option) options ≡ is_among options option
-contains_is [] option = refl
-contains_is (other ∷ options) option =
-    let head = same_from_decides ((derived.ghosts).eq other option) (is_same other option) (derived-Decides other option) (is_same-Decides other option) in
-    ap (λ b. b || list_any (λ o. (derived.ghosts).eq o option) options) head ∙ ap (λ b. is_same other option || b) (contains_is options option)
+    by : (b : Bool)
+        → is_same first option ≡ b
+        → (b || is_among options option) ≡ true
+        → (is_among options option ≡ true → is_among options other ≡ true)
+        → (is_same first other || is_among options other) ≡ true
+    by true here among later = rw (is_same-along first option other same here) refl
+    by false here among later = or_later (is_same first other) (later among)

@@ -9,7 +9,10 @@ pub none_passes : (p : ℕ → Bool) (text : List ℕ) → position_or_len p tex
 none_passes p [] e = refl
 none_passes p (byte ∷ text) e = by (p byte) (none_passes p text) e
   where
-    by : (b : Bool) → (position_or_len p text ≡ length text → list_any p text ≡ false) → cond (not b) (1 + position_or_len p text) 0 ≡ length (byte ∷ text) → (b || list_any p text) ≡ false
+    by : (b : Bool)
+        → (position_or_len p text ≡ length text → list_any p text ≡ false)
+        → cond (not b) (1 + position_or_len p text) 0 ≡ length (byte ∷ text)
+        → (b || list_any p text) ≡ false
     by true later at_end = absurd (omega arith)
     by false later at_end = later (omega arith)
 
@@ -18,12 +21,18 @@ pub one_passes : (p : ℕ → Bool) (text : List ℕ) → position_or_len p text
 one_passes p [] h = absurd (omega arith)
 one_passes p (byte ∷ text) h = by (p byte) (one_passes p text) h
   where
-    by : (b : Bool) → (position_or_len p text < length text → list_any p text ≡ true) → cond (not b) (1 + position_or_len p text) 0 < length (byte ∷ text) → (b || list_any p text) ≡ true
+    by : (b : Bool)
+        → (position_or_len p text < length text → list_any p text ≡ true)
+        → cond (not b) (1 + position_or_len p text) 0 < length (byte ∷ text)
+        → (b || list_any p text) ≡ true
     by true later before_end = refl
     by false later before_end = later (omega arith)
 
 -- the name and the value round the first equals sign of a text
-pub setting_of-is : (text : List ℕ) (found : Option (Bor (List ℕ) × Bor (List ℕ))) → MatchOption found (position_or_len is_equals text ≡ length text) (λ x. (position_or_len is_equals text < length text) × (x.0.now ≡ before_first is_equals text) × (x.1.now ≡ after_first is_equals text)) → option_map (λ x. (x.0.now, x.1.now)) found ≡ setting_of text
+pub setting_of-is : (text : List ℕ) (found : Option (Bor (List ℕ) × Bor (List ℕ)))
+    → MatchOption found (position_or_len is_equals text ≡ length text) (λ x.
+    (position_or_len is_equals text < length text) × (x.0.now ≡ before_first is_equals text) × (x.1.now ≡ after_first is_equals text))
+    → option_map (λ x. (x.0.now, x.1.now)) found ≡ setting_of text
 setting_of-is text None at_end = rw (none_passes is_equals text at_end) refl
 setting_of-is text (Some x) parts = rw (one_passes is_equals text parts.0, parts.1, parts.2) refl
 

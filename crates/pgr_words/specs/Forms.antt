@@ -1,36 +1,33 @@
--- The forms of values: what the text behind an option's equals sign stands for, if it is in the option's form.
-use Rattle.std.specs.Prelude.{ℕ, Bool, true, false, ◌&&◌, if◌then◌else◌, nat_lt, nat_le, List, length, codes, ℤ, Option, Some, None, option_map, is_some}
+-- The forms of values: what the text behind an option's equals sign stands for, if it is in the form, and what a reader of a form answers.
+use Rattle.std.specs.Prelude.{◌≡◌, ℕ, Bool, true, false, ◌&&◌, if◌then◌else◌, nat_lt, nat_le, List, length, codes, ℤ, Option, Some, None, option_map, Result, Ok, Err}
 use Rattle.std.specs.Str.{bytes_eq}
 use Rattle.pgr_numerals.specs.NumeralList.{i64_list_of}
+use Rattle.pgr_words.specs.declared.value.ValueRefused.{ValueRefused}
+use Rattle.pgr_words.specs.declared.value.ValueRefused.TheVariants.{Form, Memory}
 use Rattle.pgr_words.specs.Rising.{rising}
-use Rattle.pgr_words.specs.declared.option.OptionName.{OptionName}
-use Rattle.pgr_words.specs.declared.option.OptionName.TheVariants.{Edges, Combinations, Start, End, Vids, Directed}
 
 -- the most bytes of a file name
 abbrev pub most_name_bytes : ℕ
 most_name_bytes = 4096
 
--- the most numbers in a list of names
-abbrev pub most_names : ℕ
-most_names = 65536
+-- the most ids in a list
+abbrev pub most_ids : ℕ
+most_ids = 65536
 
 -- a file name: 1 to 4,096 bytes, as they stand
 abbrev pub file_name : List ℕ → Option (List ℕ)
-file_name value = if nat_lt 0 (length value) && nat_le (length value) most_name_bytes then Some value else None
+file_name text = if nat_lt 0 (length text) && nat_le (length text) most_name_bytes then Some text else None
 
--- a list of names: 1 to 65,536 numbers joined by commas, as the strictly rising list of them
-abbrev pub names : List ℕ → Option (List ℤ)
-names value = option_map rising (i64_list_of most_names value)
+-- a list of ids: 1 to 65,536 numbers joined by commas, as the strictly rising list of them
+abbrev pub ids : List ℕ → Option (List ℤ)
+ids text = option_map rising (i64_list_of most_ids text)
 
 -- a flag: `true` or `false`
 abbrev pub flag : List ℕ → Option Bool
-flag value = if bytes_eq value (codes "true") then Some true else (if bytes_eq value (codes "false") then Some false else None)
+flag text = if bytes_eq text (codes "true") then Some true else (if bytes_eq text (codes "false") then Some false else None)
 
--- the value is in the option's form
-abbrev pub is_in_form : OptionName → List ℕ → Bool
-is_in_form Edges value = is_some (file_name value)
-is_in_form Combinations value = is_some (file_name value)
-is_in_form Start value = is_some (names value)
-is_in_form End value = is_some (names value)
-is_in_form Vids value = is_some (names value)
-is_in_form Directed value = is_some (flag value)
+-- the answer of a reader is what the text stands for, or that it isn't in the form, unless memory was wanting
+abbrev pub Reads : {X Y : Type 0} → (X → Y) → Option Y → Result X ValueRefused → Type 0
+Reads view value (Ok x) = value ≡ Some (view x)
+Reads view value (Err Form) = value ≡ None
+Reads view value (Err Memory) = Unit {0}

@@ -1,34 +1,38 @@
--- The table of functions: what each is called, which options it has, and when it needs each.
-use Rattle.std.specs.Prelude.{ℕ, Bool, List, [], ◌∷◌, Option, codes, map, find}
+-- The functions, as data: of each its name, and its options.
+use Rattle.std.specs.Prelude.{ℕ, Bool, List, [], ◌∷◌, Option, codes, find}
 use Rattle.std.specs.List.{list_any}
 use Rattle.std.specs.Map.{lookup}
 use Rattle.std.specs.Str.{bytes_eq}
 use Rattle.pgr_words.specs.declared.function.Function.{Function}
-use Rattle.pgr_words.specs.declared.function.Function.TheVariants.{Dijkstra, DijkstraCost, DijkstraCostMatrix}
-use Rattle.pgr_words.specs.declared.function.Need.{Need}
-use Rattle.pgr_words.specs.declared.function.Need.TheVariants.{Always, WithoutCombinations, Never}
+use Rattle.pgr_words.specs.declared.function.Function.TheVariants as function
 use Rattle.pgr_words.specs.declared.option.OptionName.{OptionName}
 use Rattle.pgr_words.specs.declared.option.OptionName.TheVariants.{Edges, Combinations, Start, End, Vids, Directed}
 use Rattle.pgr_words.specs.Options.{name_of, is_same}
 
--- each function by what it is called
-abbrev pub functions : List (List ℕ × Function)
-functions = (codes "pgr_dijkstra", Dijkstra) ∷ (codes "pgr_dijkstraCost", DijkstraCost) ∷ (codes "pgr_dijkstraCostMatrix", DijkstraCostMatrix) ∷ []
+-- the options of a function that asks for pairs, in the order in which needed ones are looked for
+abbrev pub pair_options : List OptionName
+pair_options = Edges ∷ Start ∷ End ∷ Combinations ∷ Directed ∷ []
 
--- the options of a function and when it needs each, in the order in which needed ones are looked for
-abbrev pub options_of : Function → List (OptionName × Need)
-options_of Dijkstra = (Edges, Always) ∷ (Start, WithoutCombinations) ∷ (End, WithoutCombinations) ∷ (Combinations, Never) ∷ (Directed, Never) ∷ []
-options_of DijkstraCost = (Edges, Always) ∷ (Start, WithoutCombinations) ∷ (End, WithoutCombinations) ∷ (Combinations, Never) ∷ (Directed, Never) ∷ []
-options_of DijkstraCostMatrix = (Edges, Always) ∷ (Vids, Always) ∷ (Directed, Never) ∷ []
+-- the options of a function that asks for all pairs of one list, in the same order
+abbrev pub matrix_options : List OptionName
+matrix_options = Edges ∷ Vids ∷ Directed ∷ []
 
--- the function that is called so
-abbrev pub function_named : List ℕ → Option Function
+-- each function by what it is called, with its options
+abbrev pub functions : List (List ℕ × (Function × List OptionName))
+functions =
+    (codes "pgr_dijkstra", (function.Dijkstra, pair_options))
+    ∷ (codes "pgr_dijkstraCost", (function.DijkstraCost, pair_options))
+    ∷ (codes "pgr_dijkstraCostMatrix", (function.DijkstraCostMatrix, matrix_options))
+    ∷ []
+
+-- the function that is called so, and its options
+abbrev pub function_named : List ℕ → Option (Function × List OptionName)
 function_named name = lookup (bytes_eq name) functions
 
--- the option of the function that is called so
-abbrev pub option_named : Function → List ℕ → Option OptionName
-option_named function name = find (λ option. bytes_eq (name_of option) name) (map (λ entry. entry.0) (options_of function))
+-- the one of some options that is called so
+abbrev pub option_named : List OptionName → List ℕ → Option OptionName
+option_named options name = find (λ option. bytes_eq (name_of option) name) options
 
--- the function has the option
-abbrev pub has_option : Function → OptionName → Bool
-has_option function option = list_any (λ entry. is_same entry.0 option) (options_of function)
+-- the option is among these
+abbrev pub is_among : List OptionName → OptionName → Bool
+is_among options option = list_any (λ other. is_same other option) options

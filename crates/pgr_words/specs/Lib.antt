@@ -1,9 +1,10 @@
+pub mod Forms
+pub mod Rising
 pub mod Options
 pub mod Functions
-pub mod Rising
-pub mod Forms
 pub mod Words
 pub mod Commands
-pub mod Values
 pub mod Drafts
 pub mod WellFormed
+pub mod FirstFault
+pub mod FaultText

@@ -1,5 +1,5 @@
-ghost use Rattle.std.specs.Prelude.{◌≡◌, None};
-ghost use Rattle.pgr_words.specs.Commands.{command_with};
+ghost use Rattle.std.specs.Prelude.{◌≡◌};
+ghost use Rattle.pgr_words.specs.Commands.{defaults};
 
 use crate::estimate::{Factor, Heuristic};
 use crate::function::Function;
@@ -9,9 +9,8 @@ use std::alloc::Global;
 
 /// What the words ask for: a function, and the values of its options.
 ///
-/// A field whose option the function doesn't have, or that isn't given, has its default. The lists of
-/// names are strictly rising, so each name stands once. Every command of
-/// [`read_words`](crate::read_words) is well formed.
+/// A field whose option the function doesn't have, or that isn't given, has its default. The lists of ids are strictly
+/// rising, so each id stands once. Every command of [`read_words`](crate::read_words) is well formed.
 #[derive(Debug, Drop)]
 pub struct Command {
     /// The function.
@@ -40,7 +39,7 @@ pub struct Command {
     pub equicost: bool,
     /// The side that one drives on, both by default.
     pub driving_side: Side,
-    /// The estimate, the fifth by default.
+    /// How the cost that is left is estimated: by the sum of the distances in x and in y by default.
     pub heuristic: Heuristic,
     /// What the estimate is multiplied by, 1 by default.
     pub factor: Factor,
@@ -57,7 +56,7 @@ pub struct Command {
 impl Command {
     /// The command of a function with no option given.
     pub(crate) fn with_defaults(alloc: Global, function: Function) -> Command
-        ensures { result ≡ command_with function (λ _. None) }
+        ensures { result ≡ defaults function }
     {
         Command {
             function,

@@ -1,14 +1,17 @@
-ghost use Rattle.std.specs.Prelude.{◌≡◌, ◌&&◌, not, [], OnOk, IfErr, option_map, Result};
-ghost use Rattle.pgr_words.specs.Words.{setting_in, is_among, first_missing, is_needed};
+ghost use Rattle.std.specs.Prelude.{◌≡◌, ◌&&◌, not, List, [], OnOk, IfErr, option_map, Result};
+ghost use Rattle.pgr_words.specs.declared.option.OptionName.{OptionName};
+ghost use Rattle.pgr_words.specs.Options.{rule_of, with_value};
+ghost use Rattle.pgr_words.specs.Functions.{is_among, option_named};
+ghost use Rattle.pgr_words.specs.Words.{setting_in, first_missing, is_needed};
 ghost use Rattle.pgr_words.specs.Commands.{IsVerdict, unless, missing_fault};
-ghost use Rattle.pgr_words.specs.Values.{Reads, with_value};
+ghost use Rattle.pgr_words.specs.Forms.{Reads};
 ghost use Rattle.pgr_words.specs.Drafts.{IsDraft, Takes, Faults, IsFaultOf, Gives};
 
 use crate::command::Command;
 use crate::fault::{WordFault, WordsRefused};
-use crate::function::{Function, Need};
-use crate::option::OptionName;
-use crate::value::{ValueRefused, read_file_name, read_flag, read_names};
+use crate::function::Function;
+use crate::option::{Need, OptionName};
+use crate::value::{ValueRefused, read_file_name, read_flag, read_ids};
 use std::alloc::Global;
 
 /// A command that is being read: its fields so far, and the options that stood.
@@ -21,7 +24,7 @@ pub(crate) struct Draft {
 impl Draft {
     /// A draft of a function's command, before its options.
     pub(crate) fn new(alloc: Global, function: Function) -> Draft
-        ensures { IsDraft function [] result }
+        ensures { (options : List OptionName) → IsDraft function options [] result }
     {
         Draft {
             command: Command::with_defaults(alloc, function),
@@ -33,14 +36,14 @@ impl Draft {
     pub(crate) fn take(
         &mut self,
         alloc: Global,
-        function: Function,
+        options: &[OptionName],
         place: u64,
         word: &str,
     ) -> Result<(), WordsRefused>
-        ensures ok { OnOk result (Takes function place word.now self.old self.new) }
-        ensures fault { IfErr result (IsFaultOf (Faults function place word.now self.old)) }
+        ensures ok { OnOk result (Takes options.now place word.now self.old self.new) }
+        ensures fault { IfErr result (IsFaultOf (Faults options.now place word.now self.old)) }
     {
-        let (option, value) = option_in(function, place, word)?;
+        let (option, value) = option_in(options, place, word)?;
         if is_given(self.stood.as_slice(), option) {
             return Err(WordsRefused::Fault(WordFault::RepeatedOption(option)));
         }
@@ -56,12 +59,12 @@ impl Draft {
     }
 
     /// The command, or the first needed option that is missing.
-    pub(crate) fn finish(self, function: Function) -> Result<Command, WordsRefused>
-        ensures { let missing = first_missing function self.stood.items in
+    pub(crate) fn finish(self, options: &[OptionName]) -> Result<Command, WordsRefused>
+        ensures { let missing = first_missing options.now self.stood.items in
             IsVerdict result (unless (missing_fault missing) (Result.Ok self.command)) }
     {
         let Draft { command, stood } = self;
-        match first_missing(function, stood.as_slice()) {
+        match first_missing(options, stood.as_slice()) {
             Some(option) => Err(WordsRefused::Fault(WordFault::MissingOption(option))),
             None => Ok(command),
         }
@@ -69,14 +72,23 @@ impl Draft {
 }
 
 /// The option that a word gives, and its value.
-fn option_in(function: Function, place: u64, word: &str) -> Result<(OptionName, &str), WordFault>
-    ensures { Gives (λ given. (given.0, given.1.now)) function place word.now result }
+fn option_in<'a>(
+    options: &[OptionName],
+    place: u64,
+    word: &'a str,
+) -> Result<(OptionName, &'a str), WordFault>
+    ensures { Gives (λ given. (given.0, given.1.now)) options.now place word.now result }
 {
     let (name, value) = setting_in(word).ok_or(WordFault::BadWord(place))?;
-    let option = function
-        .option_named(name)
-        .ok_or(WordFault::UnknownOption(place))?;
+    let option = option_named(options, name).ok_or(WordFault::UnknownOption(place))?;
     Ok((option, value))
+}
+
+/// The one of the options that is called so, if there is one.
+fn option_named(options: &[OptionName], name: &str) -> Option<OptionName>
+    ensures { result ≡ option_named options.now name.now }
+{
+    options.iter().copied().find(|option| option.name() == name)
 }
 
 /// What stands between a word's two hyphens and its first equals sign, and all that follows that.
@@ -86,7 +98,7 @@ fn setting_in(word: &str) -> Option<(&str, &str)>
     word.strip_prefix("--")?.split_once('=')
 }
 
-/// Sets the field of an option to what its value stands for.
+/// Sets the field of an option to what its value stands for: for each option its form and its field.
 fn set_option(
     alloc: Global,
     command: &mut Command,
@@ -98,30 +110,29 @@ fn set_option(
     match option {
         OptionName::Edges => command.edges = read_file_name(alloc, value)?,
         OptionName::Combinations => command.combinations = Some(read_file_name(alloc, value)?),
-        OptionName::Start => command.starts = read_names(alloc, value)?,
-        OptionName::End => command.ends = read_names(alloc, value)?,
-        OptionName::Vids => command.vids = read_names(alloc, value)?,
+        OptionName::Start => command.starts = read_ids(alloc, value)?,
+        OptionName::End => command.ends = read_ids(alloc, value)?,
+        OptionName::Vids => command.vids = read_ids(alloc, value)?,
         OptionName::Directed => command.directed = read_flag(value)?,
     }
     Ok(())
 }
 
-/// The first needed option in the function's table that isn't given.
-fn first_missing(function: Function, given: &[OptionName]) -> Option<OptionName>
-    ensures { result ≡ first_missing function given.now }
+/// The first of the options that is needed beside those that are given, and isn't among them.
+fn first_missing(options: &[OptionName], given: &[OptionName]) -> Option<OptionName>
+    ensures { result ≡ first_missing options.now given.now }
 {
-    function
-        .options()
+    options
         .iter()
-        .find(|entry| is_missing(given, entry.0, entry.1))
-        .map(|entry| entry.0)
+        .copied()
+        .find(|option| is_missing(given, *option))
 }
 
-/// Whether an option with this need is needed beside those that are given, and isn't among them.
-fn is_missing(given: &[OptionName], option: OptionName, need: Need) -> bool
-    ensures { result ≡ (is_needed given.now need && not (is_among given.now option)) }
+/// Whether the option is needed beside those that are given, and isn't among them.
+fn is_missing(given: &[OptionName], option: OptionName) -> bool
+    ensures { result ≡ (is_needed given.now (rule_of option).need && not (is_among given.now option)) }
 {
-    let is_needed = match need {
+    let is_needed = match option.rule().need {
         Need::Always => true,
         Need::WithoutCombinations => !is_given(given, OptionName::Combinations),
         Need::Never => false,
@@ -133,5 +144,5 @@ fn is_missing(given: &[OptionName], option: OptionName, need: Need) -> bool
 fn is_given(given: &[OptionName], option: OptionName) -> bool
     ensures { result ≡ is_among given.now option }
 {
-    given.contains(&option)
+    given.iter().any(|other| other.name() == option.name())
 }

@@ -11,6 +11,7 @@ mod draft;
 mod estimate;
 mod fault;
 mod function;
+mod laws;
 mod method;
 mod option;
 mod value;
@@ -20,6 +21,10 @@ pub use command::Command;
 pub use estimate::{Factor, Heuristic};
 pub use fault::{WordFault, WordsRefused};
 pub use function::Function;
+pub use laws::{
+    fields_of_well_formed_commands_are_in_form, the_first_fault_is_that_of_the_first_bad_word,
+    what_follows_a_fault_has_no_part_in_it,
+};
 pub use method::Method;
 pub use option::OptionName;
 pub use words::read_words;

@@ -1,7 +1,9 @@
 ghost use Rattle.std.specs.Prelude.{◌≡◌};
-ghost use Rattle.pgr_words.specs.Options.{name_of};
+ghost use Rattle.pgr_words.specs.Options.{name_of, rule_of};
 
 /// An option of the command line.
+///
+/// The values of its field in a [`Command`](crate::Command) stand there.
 #[derive(Clone, Copy, Debug, PartialEq, Eq)]
 pub enum OptionName {
     /// The file of the table of edges.
@@ -18,18 +20,47 @@ pub enum OptionName {
     Directed,
 }
 
+/// When a function needs an option that it has.
+#[derive(Clone, Copy, Debug, PartialEq, Eq)]
+pub(crate) enum Need {
+    /// In every command.
+    Always,
+    /// In every command that doesn't give combinations.
+    WithoutCombinations,
+    /// In none: the option has a default.
+    Never,
+}
+
+/// What is said of an option, beside the form of its value and the field that the value fills.
+#[derive(Clone, Copy, Debug)]
+pub(crate) struct OptionRule {
+    /// What it is called, without its two hyphens.
+    pub(crate) name: &'static str,
+    /// When it is needed.
+    pub(crate) need: Need,
+}
+
 impl OptionName {
     /// What the option is called, without its two hyphens.
     pub fn name(self) -> &'static str
         ensures { result.now ≡ name_of self }
     {
-        match self {
-            OptionName::Edges => "edges",
-            OptionName::Combinations => "combinations",
-            OptionName::Start => "start",
-            OptionName::End => "end",
-            OptionName::Vids => "vids",
-            OptionName::Directed => "directed",
-        }
+        self.rule().name
+    }
+
+    /// The option's name, and when it is needed.
+    pub(crate) fn rule(self) -> OptionRule
+        ensures name { result.name.now ≡ (rule_of self).name }
+        ensures need { result.need ≡ (rule_of self).need }
+    {
+        let (name, need) = match self {
+            OptionName::Edges => ("edges", Need::Always),
+            OptionName::Combinations => ("combinations", Need::Never),
+            OptionName::Start => ("start", Need::WithoutCombinations),
+            OptionName::End => ("end", Need::WithoutCombinations),
+            OptionName::Vids => ("vids", Need::Always),
+            OptionName::Directed => ("directed", Need::Never),
+        };
+        OptionRule { name, need }
     }
 }

@@ -1,17 +1,16 @@
 ghost use Rattle.std.specs.Prelude.{◌≡◌};
-ghost use Rattle.pgr_words.specs.Forms.{file_name, names, flag};
+ghost use Rattle.pgr_words.specs.Forms.{Reads, file_name, ids, flag};
 ghost use Rattle.pgr_words.specs.Rising.{rising};
-ghost use Rattle.pgr_words.specs.Values.{Reads};
 
 use pgr_numerals::read_i64_list;
 use pgr_outside::{Listed, Text};
 use std::alloc::{AllocError, Global};
 
 /// The most bytes of a file name.
-const LONGEST_NAME: usize = 4096;
+const MOST_NAME_BYTES: usize = 4096;
 
-/// The most names in a list.
-const MOST_NAMES: usize = 65536;
+/// The most ids in a list.
+const MOST_IDS: usize = 65536;
 
 /// Why a value wasn't read.
 #[derive(Clone, Copy, Debug, PartialEq, Eq, Drop)]
@@ -37,18 +36,18 @@ impl From<AllocError> for ValueRefused {
 pub(crate) fn read_file_name(alloc: Global, value: &str) -> Result<Text, ValueRefused>
     ensures { Reads (λ name. name) (file_name value.now) result }
 {
-    if value.is_empty() || value.len() > LONGEST_NAME {
+    if value.is_empty() || value.len() > MOST_NAME_BYTES {
         return Err(ValueRefused::Form);
     }
     let name = String::from_str(alloc, value)?;
     Ok(Text::from_string(name))
 }
 
-/// A list of names: 1 to 65,536 numbers joined by commas. They come strictly rising, each once.
-pub(crate) fn read_names(alloc: Global, value: &str) -> Result<Listed<i64>, ValueRefused>
-    ensures { Reads (λ list. list) (names value.now) result }
+/// A list of ids: 1 to 65,536 numbers joined by commas. They come strictly rising, each once.
+pub(crate) fn read_ids(alloc: Global, value: &str) -> Result<Listed<i64>, ValueRefused>
+    ensures { Reads (λ list. list) (ids value.now) result }
 {
-    let Some(mut list) = read_i64_list(alloc, value.as_bytes(), MOST_NAMES)? else {
+    let Some(mut list) = read_i64_list(alloc, value.as_bytes(), MOST_IDS)? else {
         return Err(ValueRefused::Form);
     };
     make_rising(&mut list);

@@ -1,11 +1,13 @@
-ghost use Rattle.std.specs.Prelude.{map, string_bytes, IfOk};
+ghost use Rattle.std.specs.Prelude.{◌≡◌, ℕ, List, map, string_bytes, Some, IfOk};
 ghost use Rattle.pgr_words.specs.Commands.{IsVerdict, command_of, command_behind};
+ghost use Rattle.pgr_words.specs.Functions.{function_named};
 ghost use Rattle.pgr_words.specs.WellFormed.{IsWellFormed};
 
 use crate::command::Command;
 use crate::draft::Draft;
 use crate::fault::{WordFault, WordsRefused};
 use crate::function::Function;
+use crate::option::OptionName;
 use std::alloc::Global;
 
 /// The command that the words ask for, or the first rule that they break.
@@ -18,36 +20,36 @@ pub fn read_words(alloc: Global, words: &[String]) -> Result<Command, WordsRefus
     ensures verdict { IsVerdict result (command_of (map string_bytes words.now)) }
     ensures well_formed { IfOk result IsWellFormed }
 {
-    let Some((first, options)) = words.split_first() else {
+    let Some((first, later)) = words.split_first() else {
         return Err(WordsRefused::Fault(WordFault::NoFunction));
     };
     match Function::named(first.as_str()) {
-        Some(function) => read_options(alloc, function, options),
+        Some((function, options)) => read_options(alloc, function, options, later),
         None => Err(WordsRefused::Fault(WordFault::UnknownFunction)),
     }
 }
 
-/// The command of a function with the options that the words behind its name give, or the first
-/// fault.
+/// The command of a function with those of its options that the words behind its name give, or the first fault.
 fn read_options(
     alloc: Global,
     function: Function,
+    options: &[OptionName],
     words: &[String],
 ) -> Result<Command, WordsRefused>
-    ensures { IsVerdict result (command_behind function (map string_bytes words.now)) }
+    ensures verdict { IsVerdict result (command_behind function options.now (map string_bytes words.now)) }
+    ensures well_formed { (name : List ℕ) → function_named name ≡ Some (function, options.now) → IfOk result IsWellFormed }
 {
     let mut draft = Draft::new(alloc, function);
     for (index, word) in words.iter().enumerate() {
         // The function's name is the first word.
-        draft.take(alloc, function, index as u64 + 2, word.as_str())?;
+        draft.take(alloc, options, index as u64 + 2, word.as_str())?;
     }
-    draft.finish(function)
+    draft.finish(options)
 }
 
 #[cfg(test)]
 mod tests {
     use super::*;
-    use crate::option::OptionName;
     use std::alloc::AllocError;
     use std::test::Fail;
 
@@ -68,7 +70,7 @@ mod tests {
     }
 
     #[test]
-    fn names_come_rising_each_once(rt: HostRuntime) -> Result<(), Fail> {
+    fn ids_come_rising_each_once(rt: HostRuntime) -> Result<(), Fail> {
         let words = words(
             rt.alloc(),
             &[
@@ -186,7 +188,7 @@ mod tests {
     }
 
     #[test]
-    fn a_list_has_at_most_65536_names(rt: HostRuntime) -> Result<(), Fail> {
+    fn a_list_has_at_most_65536_ids(rt: HostRuntime) -> Result<(), Fail> {
         let alloc = rt.alloc();
         let mut list = String::from_str(alloc, "--vids=1")?;
         for _ in 1..65536 {

@@ -1,5 +1,5 @@
 use Rattle.std.proofs.lemmas.List.Filters.{dedup_is}
-use Rattle.pgr_words.proofs.RisingLists.{sorted_is_rising}
+use Rattle.pgr_words.proofs.RisingNumbers.{sorted_is_rising}
 use Rattle.pgr_words.proofs.value.make_rising.Goals as goal
 
 pub returns : goal.returns

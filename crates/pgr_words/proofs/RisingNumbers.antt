@@ -158,8 +158,10 @@ int_eq-refl x y e = (Decides-int_eq x y).0 e
 pub sorted_is_rising : (xs sorted after : List ℤ) → IsPermutation xs sorted → IsSorted int_cmp sorted → after ≡ dedup int_eq sorted → after ≡ rising xs
 sorted_is_rising xs sorted after moved in_order is =
     is ∙ one_rising (dedup int_eq sorted) (rising xs) (IsStrictlySortedBy-dedup int_cmp_total {E = int_eq} (λ x y. refl) sorted in_order) (rises-rising xs)
-    (λ z h. rising-In z xs (In-from_Contains xs z (Contains-permutation sorted xs z (IsPermutation-sym xs sorted moved) (Contains-from_dedup int_eq sorted z (Contains-from_In (dedup int_eq sorted) z h)))))
-    (λ z h. In-from_Contains (dedup int_eq sorted) z (Contains-dedup int_eq_equiv int_eq-refl sorted z (Contains-permutation xs sorted z moved (Contains-from_In xs z (In-rising z xs h)))))
+    (λ z h. rising-In z xs (In-from_Contains xs z (Contains-permutation sorted xs z (IsPermutation-sym xs sorted moved)
+    (Contains-from_dedup int_eq sorted z (Contains-from_In (dedup int_eq sorted) z h)))))
+    (λ z h. In-from_Contains (dedup int_eq sorted) z (Contains-dedup int_eq_equiv int_eq-refl sorted z
+    (Contains-permutation xs sorted z moved (Contains-from_In xs z (In-rising z xs h)))))
 
 -- ---- the same by places
 
@@ -174,7 +176,9 @@ length-with_number : (x : ℤ) (ys : List ℤ) → (length (with_number x ys) �
 length-with_number x [] = (omega arith, omega arith)
 length-with_number x (y ∷ ys) = by (int_cmp x y) (length-with_number x ys)
   where
-    by : (o : Ordering) → (length (with_number x ys) ≤ length ys + 1) × (0 < length (with_number x ys)) → (length (at_place o x y ys (with_number x ys)) ≤ length (y ∷ ys) + 1) × (0 < length (at_place o x y ys (with_number x ys)))
+    by : (o : Ordering)
+        → (length (with_number x ys) ≤ length ys + 1) × (0 < length (with_number x ys))
+        → (length (at_place o x y ys (with_number x ys)) ≤ length (y ∷ ys) + 1) × (0 < length (at_place o x y ys (with_number x ys)))
     by Less later = (omega arith, omega arith)
     by Equal later = (omega arith, omega arith)
     by Greater later = (omega arith, omega arith)
