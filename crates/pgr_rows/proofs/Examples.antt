@@ -2,7 +2,8 @@
 use Rattle.std.proofs.Common.{◌≡◌, [], ◌∷◌, refl}
 use Rattle.std.specs.Prelude.{codes}
 use Rattle.pgr_rows.specs.declared.rows.Rows.TheVariants.{Paths, Costs}
-use Rattle.pgr_rows.specs.Text.{text_of, line_of}
+use Rattle.pgr_rows.specs.Layout.{line_of}
+use Rattle.pgr_rows.specs.Text.{text_of}
 
 -- a table without rows is its header line
 no_rows : text_of (Paths []) ≡ codes "seq,path_seq,start_vid,end_vid,node,edge,cost,agg_cost\n"

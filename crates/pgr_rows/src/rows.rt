@@ -1,4 +1,6 @@
-use pgr_outside::Listed;
+use crate::line::{Piece, gather_line};
+use crate::record::Record;
+use pgr_outside::{Failed, Listed, Part, Sink};
 
 /// A row of a table of paths: one link of a path, or its end.
 #[derive(Clone, Copy, Debug, PartialEq, Eq)]
@@ -21,6 +23,33 @@ pub struct PathRow {
     pub agg_cost: u64,
 }
 
+impl Record for PathRow {
+    ghost use Rattle.pgr_rows.specs.Text.{paths};
+
+    ghost layout = { paths };
+
+    fn header() -> &'static str {
+        "seq,path_seq,start_vid,end_vid,node,edge,cost,agg_cost\n"
+    }
+
+    fn gather<O: Sink>(&self, out: &mut O, piece: &mut Piece) -> Result<(), Failed> {
+        gather_line(
+            out,
+            piece,
+            &[
+                Part::Number(self.seq),
+                Part::Number(self.path_seq),
+                Part::Signed(self.start_vid),
+                Part::Signed(self.end_vid),
+                Part::Signed(self.node),
+                Part::Signed(self.edge),
+                Part::Number(self.cost),
+                Part::Number(self.agg_cost),
+            ],
+        )
+    }
+}
+
 /// A row of a table of costs: the cost from one vertex to another.
 #[derive(Clone, Copy, Debug, PartialEq, Eq)]
 pub struct CostRow {
@@ -30,6 +59,28 @@ pub struct CostRow {
     pub end_vid: i64,
     /// The cost of the path.
     pub agg_cost: u64,
+}
+
+impl Record for CostRow {
+    ghost use Rattle.pgr_rows.specs.Text.{costs};
+
+    ghost layout = { costs };
+
+    fn header() -> &'static str {
+        "start_vid,end_vid,agg_cost\n"
+    }
+
+    fn gather<O: Sink>(&self, out: &mut O, piece: &mut Piece) -> Result<(), Failed> {
+        gather_line(
+            out,
+            piece,
+            &[
+                Part::Signed(self.start_vid),
+                Part::Signed(self.end_vid),
+                Part::Number(self.agg_cost),
+            ],
+        )
+    }
 }
 
 /// The rows of a result table, with one variant for each kind of table.

@@ -1,23 +1,19 @@
-ghost use Rattle.std.specs.Prelude.{◌≡◌, ◌≤◌, ◌++◌, flat_map, OnOk, OnErr};
+ghost use Rattle.std.specs.Prelude.{◌≡◌, ◌≤◌, OnOk, OnErr};
 ghost use Rattle.pgr_outside.specs.Faults.{HasRisen};
 ghost use Rattle.pgr_outside.specs.Sink.{with_added, AddsPrefix};
+ghost use Rattle.pgr_rows.specs.Layout.{lines_of, table_text};
 ghost use Rattle.pgr_rows.specs.Text.{text_of};
 
-use crate::line::Line;
+use crate::line::Piece;
+use crate::record::Record;
 use crate::rows::Rows;
-use pgr_outside::{Failed, Sink, write_all};
-
-/// The header line of a table of paths.
-const PATHS_HEADER: &[u8] = b"seq,path_seq,start_vid,end_vid,node,edge,cost,agg_cost\n";
-
-/// The header line of a table of costs.
-const COSTS_HEADER: &[u8] = b"start_vid,end_vid,agg_cost\n";
+use pgr_outside::{Failed, Listed, Sink, hand_on, write_all};
 
 /// Writes the text of a table: the header line, then one line for each row.
 ///
-/// `Failed` comes only where the sink's count of faults rose in this call, and then a front of the text
-/// was added. The first piece that the sink is handed is the whole header line with its line feed. No
-/// memory is taken.
+/// `Failed` comes only where the sink's count of faults rose in this call, and then a prefix of the text
+/// was added. The first piece that the sink is handed is the whole header line with its line feed; the lines
+/// behind it are handed over in pieces of up to 16 KiB. It takes no memory.
 pub fn write_table<O: Sink>(out: &mut O, rows: &Rows) -> Result<(), Failed>
     ensures text { OnOk result (O.written out.new ≡ with_added (O.written out.old) (text_of rows.now)) }
     ensures failed { OnErr result (HasRisen (O.faults out.old) (O.faults out.new)) }
@@ -25,33 +21,35 @@ pub fn write_table<O: Sink>(out: &mut O, rows: &Rows) -> Result<(), Failed>
     ensures faults { O.faults out.old ≤ O.faults out.new }
 {
     match rows {
-        Rows::Paths(rows) => write_headed(out, PATHS_HEADER, rows.as_slice()),
-        Rows::Costs(rows) => write_headed(out, COSTS_HEADER, rows.as_slice()),
+        Rows::Paths(rows) => write_records(out, rows),
+        Rows::Costs(rows) => write_records(out, rows),
     }
 }
 
-/// Writes a header line, and then the lines of rows.
-fn write_headed<O: Sink, R: Line>(out: &mut O, header: &[u8], rows: &[R]) -> Result<(), Failed>
-    ensures text { OnOk result (O.written out.new ≡ with_added (O.written out.old) (header.now ++ flat_map R.text rows.now)) }
+/// Writes the header line of a kind of row, and then the lines of rows.
+fn write_records<O: Sink, R: Record>(out: &mut O, rows: &Listed<R>) -> Result<(), Failed>
+    ensures text { OnOk result (O.written out.new ≡ with_added (O.written out.old) (table_text R.layout rows.now)) }
     ensures failed { OnErr result (HasRisen (O.faults out.old) (O.faults out.new)) }
-    ensures front { OnErr result (AddsPrefix (O.written out.old) (O.written out.new) (header.now ++ flat_map R.text rows.now)) }
+    ensures front { OnErr result (AddsPrefix (O.written out.old) (O.written out.new) (table_text R.layout rows.now)) }
     ensures faults { O.faults out.old ≤ O.faults out.new }
 {
-    write_all(out, header)?;
-    write_lines(out, rows)?;
+    write_all(out, R::header().as_bytes())?;
+    write_lines(out, rows.as_slice())?;
     Ok(())
 }
 
-/// Writes the lines of rows.
-fn write_lines<O: Sink, R: Line>(out: &mut O, rows: &[R]) -> Result<(), Failed>
-    ensures text { OnOk result (O.written out.new ≡ with_added (O.written out.old) (flat_map R.text rows.now)) }
+/// Writes the lines of rows, gathered into large pieces.
+fn write_lines<O: Sink, R: Record>(out: &mut O, rows: &[R]) -> Result<(), Failed>
+    ensures text { OnOk result (O.written out.new ≡ with_added (O.written out.old) (lines_of R.layout rows.now)) }
     ensures failed { OnErr result (HasRisen (O.faults out.old) (O.faults out.new)) }
-    ensures front { OnErr result (AddsPrefix (O.written out.old) (O.written out.new) (flat_map R.text rows.now)) }
+    ensures front { OnErr result (AddsPrefix (O.written out.old) (O.written out.new) (lines_of R.layout rows.now)) }
     ensures faults { O.faults out.old ≤ O.faults out.new }
 {
+    let mut piece = Piece::new();
     for row in rows {
-        write_all(out, row.line().as_str().as_bytes())?;
+        row.gather(out, &mut piece)?;
     }
+    hand_on(out, &mut piece)?;
     Ok(())
 }
 
@@ -59,7 +57,7 @@ fn write_lines<O: Sink, R: Line>(out: &mut O, rows: &[R]) -> Result<(), Failed>
 mod tests {
     use super::*;
     use crate::rows::{CostRow, PathRow};
-    use pgr_outside::{Listed, MemorySink};
+    use pgr_outside::MemorySink;
     use std::test::Fail;
 
     const ROW: PathRow = PathRow {
@@ -85,7 +83,7 @@ mod tests {
             }
             let mut out = MemorySink::with_room(rt.alloc(), 256, 7, Vec::new(rt.alloc()))?;
             write_table(&mut out, &Rows::Paths(Listed::from_vec(rows)))?;
-            let mut want = Vec::from_slice(rt.alloc(), PATHS_HEADER)?;
+            let mut want = Vec::from_slice(rt.alloc(), PathRow::header().as_bytes())?;
             want.extend_from_slice(lines.as_bytes())?;
             assert_eq!(rt; out.bytes(), want.as_slice());
         }
