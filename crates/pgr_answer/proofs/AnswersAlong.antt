@@ -6,7 +6,7 @@ use Rattle.std.proofs.lemmas.List.Elements.{All-map}
 use Rattle.pgr_outside.specs.Lists.{IsStrictlyRising}
 use Rattle.pgr_walks.specs.declared.link.LinkOf.{LinkOf}
 use Rattle.pgr_walks.specs.Walk.{IsWalk, IsVertex}
-use Rattle.pgr_answer.specs.Pairs.{IsAnswered}
+use Rattle.pgr_answer.specs.Pairs.{IsAnswerable}
 use Rattle.pgr_answer.specs.Answers.{Answer, answer_cmp, AreAnswers}
 use Rattle.pgr_answer.specs.Costs.{IsLeastCost}
 use Rattle.pgr_answer.specs.Paths.{IsLeastBetween}
@@ -36,21 +36,21 @@ pub answers-seen : {A B : Type 0} (f : A → B) (Has : LinkOf ℤ → Type 0) (A
     → (answers : List (Answer A)) → AreAnswers Has Asked Shows answers → AreAnswers Has Asked Shown (map (seen f) answers)
 answers-seen f Has Asked Shows Shown through answers are = record {
   asked = All-map (λ answer. Asked answer.start answer.end) (seen f) answers are.asked;
-  answered = All-map (λ answer. IsAnswered Has answer.start answer.end) (seen f) answers are.answered;
+  answerable = All-map (λ answer. IsAnswerable Has answer.start answer.end) (seen f) answers are.answerable;
   shows = All-map (λ answer. Shown answer.start answer.end answer.shown) (seen f) answers (λ k d within. through _ _ _ (are.shows k d within));
-  every = λ start end walk asked answered is_walk. Any-map (λ answer. (answer.start ≡ start) × (answer.end ≡ end)) (seen f) answers (are.every start end walk asked answered is_walk);
+  every = λ start end walk asked answerable is_walk. Any-map (λ answer. (answer.start ≡ start) × (answer.end ≡ end)) (seen f) answers (are.every start end walk asked answerable is_walk);
   rise = rise-seen f answers are.rise;
 }
 
--- pairs asked for otherwise: the same answers where of the answered pairs the same are asked for
+-- pairs asked for otherwise: the same answers where of the answerable pairs the same are asked for
 pub answers-asked : {A : Type 0} (Has : LinkOf ℤ → Type 0) (Asked Wanted : ℤ → ℤ → Type 0) (Shows : ℤ → ℤ → A → Type 0)
-    → ((s t : ℤ) → IsAnswered Has s t → Asked s t ↔ Wanted s t)
+    → ((s t : ℤ) → IsAnswerable Has s t → Asked s t ↔ Wanted s t)
     → (answers : List (Answer A)) → AreAnswers Has Asked Shows answers → AreAnswers Has Wanted Shows answers
 answers-asked Has Asked Wanted Shows same answers are = record {
-  asked = λ k d within. (same _ _ (are.answered k d within)).0 (are.asked k d within);
-  answered = are.answered;
+  asked = λ k d within. (same _ _ (are.answerable k d within)).0 (are.asked k d within);
+  answerable = are.answerable;
   shows = are.shows;
-  every = λ start end walk wanted answered is_walk. are.every start end walk ((same start end answered).1 wanted) answered is_walk;
+  every = λ start end walk wanted answerable is_walk. are.every start end walk ((same start end answerable).1 wanted) answerable is_walk;
   rise = are.rise;
 }
 
@@ -63,12 +63,12 @@ IsWalk-over P Q f s (link ∷ rest) t is_walk = (f link is_walk.0, is_walk.1, Is
 IsVertex-over : (P Q : LinkOf ℤ → Type 0) → ((link : LinkOf ℤ) → P link → Q link) → (v : ℤ) → IsVertex P v → IsVertex Q v
 IsVertex-over P Q f v (link, has, ends) = (link, f link has, ends)
 
--- a pair that is answered over a set of links is answered over a set that has them
-IsAnswered-over : (P Q : LinkOf ℤ → Type 0) → ((link : LinkOf ℤ) → P link → Q link) → (s t : ℤ) → IsAnswered P s t → IsAnswered Q s t
-IsAnswered-over P Q f s t answered = record {
-  start_is_vertex = IsVertex-over P Q f s answered.start_is_vertex;
-  end_is_vertex = IsVertex-over P Q f t answered.end_is_vertex;
-  differ = answered.differ;
+-- a pair that is answerable over a set of links is answerable over a set that has them
+IsAnswerable-over : (P Q : LinkOf ℤ → Type 0) → ((link : LinkOf ℤ) → P link → Q link) → (s t : ℤ) → IsAnswerable P s t → IsAnswerable Q s t
+IsAnswerable-over P Q f s t answerable = record {
+  start_is_vertex = IsVertex-over P Q f s answerable.start_is_vertex;
+  end_is_vertex = IsVertex-over P Q f t answerable.end_is_vertex;
+  differ = answerable.differ;
 }
 
 module _ (P Q : LinkOf ℤ → Type 0) (same : (link : LinkOf ℤ) → P link ↔ Q link) where
@@ -102,8 +102,8 @@ module _ (P Q : LinkOf ℤ → Type 0) (same : (link : LinkOf ℤ) → P link �
       → (answers : List (Answer A)) → AreAnswers P Asked Shows answers → AreAnswers Q Asked Shown answers
   answers-over Asked Shows Shown along answers are = record {
     asked = are.asked;
-    answered = λ k d within. IsAnswered-over P Q into _ _ (are.answered k d within);
+    answerable = λ k d within. IsAnswerable-over P Q into _ _ (are.answerable k d within);
     shows = λ k d within. along _ _ _ (are.shows k d within);
-    every = λ start end walk asked answered is_walk. are.every start end walk asked (IsAnswered-over Q P back start end answered) (IsWalk-over Q P back start walk end is_walk);
+    every = λ start end walk asked answerable is_walk. are.every start end walk asked (IsAnswerable-over Q P back start end answerable) (IsWalk-over Q P back start walk end is_walk);
     rise = are.rise;
   }

@@ -11,7 +11,7 @@ use Rattle.pgr_rows.specs.declared.rows.PathRow.{PathRow}
 use Rattle.pgr_answer.specs.declared.role.Role.TheVariants.{Edges, Combinations}
 use Rattle.pgr_answer.specs.declared.refused.Refused.TheVariants.{TooLong}
 use Rattle.pgr_answer.specs.Files.{files_of, most_bytes, refusal_of}
-use Rattle.pgr_answer.specs.Pairs.{IsAsked, IsAskedOfMatrix, IsAnswered}
+use Rattle.pgr_answer.specs.Pairs.{IsAsked, IsAskedOfMatrix, IsAnswerable}
 use Rattle.pgr_answer.specs.Answers.{Answer, AreAnswers}
 use Rattle.pgr_answer.specs.Paths.{path_table}
 use Rattle.pgr_answer.specs.CostTables.{cost_row}
@@ -40,9 +40,9 @@ a_pair_of_lists_is_asked = inl ((1, omega arith, refl), (0, omega arith, refl))
 no_diagonal : (vids : List ℤ) (v : ℤ) → IsAskedOfMatrix vids v v → ⊥
 no_diagonal vids v asked = asked.2 refl
 
--- equal ends aren't answered
-equal_ends : (Has : LinkOf ℤ → Type 0) (v : ℤ) → IsAnswered Has v v → ⊥
-equal_ends Has v answered = answered.differ refl
+-- equal ends aren't answerable
+equal_ends : (Has : LinkOf ℤ → Type 0) (v : ℤ) → IsAnswerable Has v v → ⊥
+equal_ends Has v answerable = answerable.differ refl
 
 -- where there is no link there is no answer
 abbrev no_link : LinkOf ℤ → Type 0
@@ -54,9 +54,9 @@ no_vertex v vertex = vertex.1
 nothing_is_answered : (Asked : ℤ → ℤ → Type 0) (Shows : ℤ → ℤ → ℕ → Type 0) → AreAnswers no_link Asked Shows []
 nothing_is_answered Asked Shows = record {
   asked = λ k d below. absurd (omega arith);
-  answered = λ k d below. absurd (omega arith);
+  answerable = λ k d below. absurd (omega arith);
   shows = λ k d below. absurd (omega arith);
-  every = λ start end walk asked answered is_walk. absurd (no_vertex start answered.start_is_vertex);
+  every = λ start end walk asked answerable is_walk. absurd (no_vertex start answerable.start_is_vertex);
   rise = λ i j d before below. absurd (omega arith);
 }
 

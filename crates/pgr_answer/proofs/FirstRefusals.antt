@@ -1,26 +1,12 @@
--- Refusals of the files of a command: the edges, and the combinations where they are named.
-use Rattle.std.proofs.Common.{◌≡◌, ℕ, List, [], ◌∷◌, ◌++◌, refl, sym, ap, subst, ◌∙◌, inl, inr, Option, Some, None, Ok, arith, Result}
+-- Where contents are known: the first refusal is the answer, unless a read failed or memory was wanting.
+use Rattle.std.proofs.Common.{◌≡◌, ℕ, List, [], ◌∷◌, ◌++◌, refl, sym, ap, subst, ◌∙◌, inl, inr, Option, Some, None, Ok, arith, Result, map}
 use Rattle.std.specs.Prelude.{◌⊎◌, All, IfSome, IsSomeAnd, IfErr, IsErrAnd, IsErrOf, IsOk, Err}
-use Rattle.std.specs.Option.{option_to_list, option_map}
-use Rattle.std.proofs.lemmas.List.Elements.{All-nil, All-cons, All-head, All-tail}
-use Rattle.pgr_outside.specs.Faults.{NoneFell}
+use Rattle.std.proofs.lemmas.List.Elements.{All-nil, All-cons, All-head, All-tail, All-append}
 use Rattle.pgr_answer.specs.declared.role.Role.{Role}
-use Rattle.pgr_answer.specs.declared.role.Role.TheVariants.{Edges, Combinations}
 use Rattle.pgr_answer.specs.declared.refused.Refused.{Refused}
 use Rattle.pgr_answer.specs.declared.refused.Refused.TheVariants.{ReadFailed, TooLong, Table, Memory}
-use Rattle.pgr_answer.specs.Files.{File, refusal_of, IsAccepted, IsKnownAccepted}
-use Rattle.pgr_answer.specs.Refusals.{IsRefused, HoldsAmong, IsFirstRefusal}
-
--- the file of edges, and that of combinations
-abbrev pub edges_file : List ℕ → File
-edges_file name = record { role = Edges; name = name }
-
-abbrev pub combinations_file : List ℕ → File
-combinations_file name = record { role = Combinations; name = name }
-
--- the files, in order
-abbrev pub files : List ℕ → Option (List ℕ) → List File
-files edges combinations = edges_file edges ∷ option_to_list (option_map combinations_file combinations)
+use Rattle.pgr_answer.specs.Files.{File, Content, refusal_of, IsPossible, IsAccepted, AreAccepted, IsKnownAccepted}
+use Rattle.pgr_answer.specs.Refusals.{IsContentRefused, IsRefused, HoldsAmong, IsFirstRefusal}
 
 -- a refusal is this one, or want of memory, or a failed read
 abbrev pub IsThis : Refused → Refused → Type 0
@@ -34,108 +20,102 @@ this_from_outside : (found refused : Refused) → IsOutside found → IsThis fou
 this_from_outside found refused (inl e) = inr (inl e)
 this_from_outside found refused (inr e) = inr (inr e)
 
--- a content that is told and refused so is refused in no other way
-told_once : (told : Option (List ℕ)) (file : File) (found refused : Refused) → IfSome told (λ bytes. refusal_of file.role bytes ≡ Some found) → IsSomeAnd told (λ bytes. refusal_of file.role bytes ≡ Some refused) → found ≡ refused
-told_once None file found refused a b = absurd b
-told_once (Some bytes) file found refused a b = cc
+-- what is so of possible bytes of a known content is so of no other verdict
+one_refusal : (content : Option (List ℕ)) (role : Role) (bytes : List ℕ) (verdict other : Option Refused) → IfSome content (λ is. bytes ≡ is) → refusal_of role bytes ≡ verdict → IsSomeAnd content (λ is. refusal_of role is ≡ other) → verdict ≡ other
+one_refusal None role bytes verdict other possible is known = absurd known
+one_refusal (Some content) role bytes verdict other possible is known = sym is ∙ ap (refusal_of role) possible ∙ known
 
--- nor is it accepted
-told_refused : (told : Option (List ℕ)) (file : File) (found : Refused) → IfSome told (λ bytes. refusal_of file.role bytes ≡ Some found) → IsSomeAnd told (λ bytes. refusal_of file.role bytes ≡ None) → ⊥
-told_refused None file found a b = b
-told_refused (Some bytes) file found a b = cc
+-- accepted isn't refused
+not_both : (refused : Refused) → ◌≡◌ {A = Option Refused} None (Some refused) → ⊥
+not_both refused e = cc
 
-told_accepted : (told : Option (List ℕ)) (file : File) (found : Refused) → IfSome told (λ bytes. refusal_of file.role bytes ≡ None) → IsSomeAnd told (λ bytes. refusal_of file.role bytes ≡ Some found) → ⊥
-told_accepted None file found a b = b
-told_accepted (Some bytes) file found a b = cc
+not_refused : (refused : Refused) → ◌≡◌ {A = Option Refused} (Some refused) None → ⊥
+not_refused refused e = cc
 
-module _ (content : List ℕ → Option (List ℕ)) (before after : List ℕ → ℕ) where
-  -- where a told content is refused, a refusal of the file is that one, or comes from outside
-  refused_once : (file : File) (found refused : Refused) → IsRefused content before after file found → IsSomeAnd (content file.name) (λ bytes. refusal_of file.role bytes ≡ Some refused) → IsThis found refused
+same_some : (a b : Refused) → ◌≡◌ {A = Option Refused} (Some a) (Some b) → a ≡ b
+same_some a b e = cc
+
+module _ (known : List ℕ → Option (List ℕ)) (before after : List ℕ → ℕ) where
+  -- where the known content of a file is refused, a refusal of the file is that one, or comes from outside
+  refused_once : (file : File) (found refused : Refused) → IsRefused known before after file found → IsSomeAnd (known file.name) (λ bytes. refusal_of file.role bytes ≡ Some refused) → IsThis found refused
   refused_once file (ReadFailed role) refused is first = inr (inr (role, refl))
-  refused_once file (TooLong role) refused is first = inl (told_once (content file.name) file (TooLong role) refused is.1 first)
-  refused_once file (Table role fault) refused is first = inl (told_once (content file.name) file (Table role fault) refused is.1 first)
+  refused_once file (TooLong role) refused is first = inl (same_some (TooLong role) refused (one_refusal (known file.name) file.role is.bytes _ _ is.possible is.is_refused first))
+  refused_once file (Table role fault) refused is first = inl (same_some (Table role fault) refused (one_refusal (known file.name) file.role is.bytes _ _ is.possible is.is_refused first))
   refused_once file Memory refused is first = inr (inl refl)
 
-  -- where a told content is accepted, a refusal of the file comes from outside
-  refused_outside : (file : File) (found : Refused) → IsRefused content before after file found → IsKnownAccepted content file → IsOutside found
-  refused_outside file (ReadFailed role) is known = inr (role, refl)
-  refused_outside file (TooLong role) is known = absurd (told_refused (content file.name) file (TooLong role) is.1 known)
-  refused_outside file (Table role fault) is known = absurd (told_refused (content file.name) file (Table role fault) is.1 known)
-  refused_outside file Memory is known = inl refl
+  -- where the known content of a file is accepted, a refusal of the file comes from outside
+  refused_outside : (file : File) (found : Refused) → IsRefused known before after file found → IsKnownAccepted known file → IsOutside found
+  refused_outside file (ReadFailed role) is accepted = inr (role, refl)
+  refused_outside file (TooLong role) is accepted = absurd (not_refused (TooLong role) (one_refusal (known file.name) file.role is.bytes _ _ is.possible is.is_refused accepted))
+  refused_outside file (Table role fault) is accepted = absurd (not_refused (Table role fault) (one_refusal (known file.name) file.role is.bytes _ _ is.possible is.is_refused accepted))
+  refused_outside file Memory is accepted = inl refl
 
-  module _ (edges : List ℕ) where
-    -- a refusal of the edges holds
-    pub edges_hold : (combinations : Option (List ℕ)) (found : Refused) → IsRefused content before after (edges_file edges) found → HoldsAmong content before after (files edges combinations) found
-    edges_hold combinations found is = record { front = []; file = edges_file edges; place = record { back = option_to_list (option_map combinations_file combinations); order = refl }; accepted = All-nil (IsAccepted content); refuses = is }
+  -- of a list of files, one is refused behind contents that are accepted, and one behind files that are known to be accepted: by where they stand
+  first_by_fronts : (found refused : Refused) (contents : List Content) (file : File) (back front : List File) (known_file : File) (known_back : List File)
+      → map (λ content. content.file) contents ++ file ∷ back ≡ front ++ known_file ∷ known_back
+      → All (IsPossible known) contents
+      → All IsAccepted contents
+      → IsRefused known before after file found
+      → All (IsKnownAccepted known) front
+      → IsSomeAnd (known known_file.name) (λ bytes. refusal_of known_file.role bytes ≡ Some refused)
+      → IsThis found refused
+  first_by_fronts found refused [] file back [] known_file known_back order possible accepted is known_accepted first =
+      let same : file ≡ known_file = cc in
+      refused_once file found refused is (subst (λ (f : File). IsSomeAnd (known f.name) (λ bytes. refusal_of f.role bytes ≡ Some refused)) (sym same) first)
+  first_by_fronts found refused [] file back (head ∷ front) known_file known_back order possible accepted is known_accepted first =
+      let same : file ≡ head = cc in
+      this_from_outside found refused (refused_outside file found is (subst (IsKnownAccepted known) (sym same) (All-head (IsKnownAccepted known) head front known_accepted)))
+  first_by_fronts found refused (content ∷ contents) file back [] known_file known_back order possible accepted is known_accepted first =
+      let same : content.file ≡ known_file = cc in
+      let here = subst (λ (f : File). IsSomeAnd (known f.name) (λ bytes. refusal_of f.role bytes ≡ Some refused)) (sym same) first in
+      absurd (not_both refused (one_refusal (known content.file.name) content.file.role content.bytes _ _ (All-head (IsPossible known) content contents possible) (All-head IsAccepted content contents accepted) here))
+  first_by_fronts found refused (content ∷ contents) file back (head ∷ front) known_file known_back order possible accepted is known_accepted first =
+      let rest : map (λ content. content.file) contents ++ file ∷ back ≡ front ++ known_file ∷ known_back = cc in
+      first_by_fronts found refused contents file back front known_file known_back rest
+      (All-tail (IsPossible known) content contents possible) (All-tail IsAccepted content contents accepted) is (All-tail (IsKnownAccepted known) head front known_accepted) first
 
-    -- a refusal of the combinations holds, where the edges are accepted
-    pub combinations_hold : (combinations : Option (List ℕ)) (found : Refused) → IsAccepted content (edges_file edges) → IsSomeAnd combinations (λ name. IsRefused content before after (combinations_file name) found) → HoldsAmong content before after (files edges combinations) found
-    combinations_hold None found accepted is = absurd is
-    combinations_hold (Some name) found accepted is = record { front = edges_file edges ∷ []; file = combinations_file name; place = record { back = []; order = refl }; accepted = All-cons (IsAccepted content) (edges_file edges) [] accepted (All-nil (IsAccepted content)); refuses = is }
+  -- the first refusal by known contents is the refusal among the files, or that one comes from outside
+  pub first_among : (files : List File) (found refused : Refused) → HoldsAmong known before after files found → IsFirstRefusal known files refused → IsThis found refused
+  first_among files found refused holds first =
+      let order = ap (λ front. front ++ holds.file ∷ holds.place.back) holds.accepted.of_files ∙ sym holds.place.order ∙ first.place.order in
+      first_by_fronts found refused holds.contents holds.file holds.place.back first.front first.file first.place.back order holds.accepted.possible holds.accepted.accepted holds.refuses first.accepted first.refuses
 
-    -- where the edges are refused, that is the first refusal
-    pub edges_first : (combinations : Option (List ℕ)) (found refused : Refused) → IsRefused content before after (edges_file edges) found → IsFirstRefusal content (files edges combinations) refused → IsThis found refused
-    edges_first combinations found refused is first = by_front first.front first.file first.place.back first.place.order first.accepted first.refuses where
-      by_front : (front : List File) (file : File) (back : List File) → files edges combinations ≡ front ++ file ∷ back → All (IsKnownAccepted content) front → IsSomeAnd (content file.name) (λ bytes. refusal_of file.role bytes ≡ Some refused) → IsThis found refused
-      by_front [] file back order accepted refuses = let same : edges_file edges ≡ file = cc in refused_once (edges_file edges) found refused is (subst (λ (f : File). IsSomeAnd (content f.name) (λ bytes. refusal_of f.role bytes ≡ Some refused)) (sym same) refuses)
-      by_front (head ∷ front) file back order accepted refuses =
-          let same : edges_file edges ≡ head = cc in
-          this_from_outside found refused (refused_outside (edges_file edges) found is (subst (IsKnownAccepted content) (sym same) (All-head (IsKnownAccepted content) head front accepted)))
+  -- what all files are known to be, one of them is
+  known_file : (files front : List File) (file : File) (back : List File) → files ≡ front ++ file ∷ back → All (IsKnownAccepted known) files → IsKnownAccepted known file
+  known_file files front file back order all = All-head (IsKnownAccepted known) file back (behind front (subst (All (IsKnownAccepted known)) order all)) where
+    behind : (front : List File) → All (IsKnownAccepted known) (front ++ file ∷ back) → All (IsKnownAccepted known) (file ∷ back)
+    behind [] all = all
+    behind (head ∷ front) all = behind front (All-tail (IsKnownAccepted known) head (front ++ file ∷ back) all)
 
-    -- where the edges are accepted, a refusal of the combinations is the first
-    pub combinations_first : (combinations : Option (List ℕ)) (found refused : Refused) → IsAccepted content (edges_file edges) → IsSomeAnd combinations (λ name. IsRefused content before after (combinations_file name) found) → IsFirstRefusal content (files edges combinations) refused → IsThis found refused
-    combinations_first None found refused accepted is first = absurd is
-    combinations_first (Some name) found refused edges_accepted is first = by_front first.front first.file first.place.back first.place.order first.accepted first.refuses where
-      by_front : (front : List File) (file : File) (back : List File) → files edges (Some name) ≡ front ++ file ∷ back → All (IsKnownAccepted content) front → IsSomeAnd (content file.name) (λ bytes. refusal_of file.role bytes ≡ Some refused) → IsThis found refused
-      by_front [] file back order accepted refuses =
-          let same : edges_file edges ≡ file = cc in
-          absurd (told_accepted (content edges) (edges_file edges) refused edges_accepted (subst (λ (f : File). IsSomeAnd (content f.name) (λ bytes. refusal_of f.role bytes ≡ Some refused)) (sym same) refuses))
-      by_front (head ∷ []) file back order accepted refuses =
-          let same : combinations_file name ≡ file = cc in
-          refused_once (combinations_file name) found refused is (subst (λ (f : File). IsSomeAnd (content f.name) (λ bytes. refusal_of f.role bytes ≡ Some refused)) (sym same) refuses)
-      by_front (head ∷ next ∷ front) file back order accepted refuses =
-          let same : combinations_file name ≡ next = cc in
-          this_from_outside found refused (refused_outside (combinations_file name) found is (subst (IsKnownAccepted content) (sym same) (All-head (IsKnownAccepted content) next front (All-tail (IsKnownAccepted content) head (next ∷ front) accepted))))
+  -- where all files are known to be accepted, a refusal comes from outside
+  pub outside_among : (files : List File) (found : Refused) → HoldsAmong known before after files found → All (IsKnownAccepted known) files → IsOutside found
+  outside_among files found holds all = refused_outside holds.file found holds.refuses (known_file files holds.front holds.file holds.place.back holds.place.order all)
 
-    -- where all are known to be accepted, a refusal of the edges, or of the combinations, comes from outside
-    pub edges_outside : (combinations : Option (List ℕ)) (found : Refused) → IsRefused content before after (edges_file edges) found → All (IsKnownAccepted content) (files edges combinations) → IsOutside found
-    edges_outside combinations found is known = refused_outside (edges_file edges) found is (All-head (IsKnownAccepted content) (edges_file edges) _ known)
+-- among contents that are accepted there is no first refusal
+module _ (known : List ℕ → Option (List ℕ)) where
+  none_by_front : (refused : Refused) (contents : List Content) (front : List File) (file : File) (back : List File)
+      → map (λ content. content.file) contents ≡ front ++ file ∷ back
+      → All (IsPossible known) contents
+      → All IsAccepted contents
+      → IsSomeAnd (known file.name) (λ bytes. refusal_of file.role bytes ≡ Some refused) → ⊥
+  none_by_front refused [] [] file back order possible accepted first = absurd cc
+  none_by_front refused [] (head ∷ front) file back order possible accepted first = absurd cc
+  none_by_front refused (content ∷ contents) [] file back order possible accepted first =
+      let same : content.file ≡ file = cc in
+      let here = subst (λ (f : File). IsSomeAnd (known f.name) (λ bytes. refusal_of f.role bytes ≡ Some refused)) (sym same) first in
+      not_both refused (one_refusal (known content.file.name) content.file.role content.bytes _ _ (All-head (IsPossible known) content contents possible) (All-head IsAccepted content contents accepted) here)
+  none_by_front refused (content ∷ contents) (head ∷ front) file back order possible accepted first =
+      let rest : map (λ content. content.file) contents ≡ front ++ file ∷ back = cc in
+      none_by_front refused contents front file back rest (All-tail (IsPossible known) content contents possible) (All-tail IsAccepted content contents accepted) first
 
-    pub combinations_outside : (combinations : Option (List ℕ)) (found : Refused) → IsSomeAnd combinations (λ name. IsRefused content before after (combinations_file name) found) → All (IsKnownAccepted content) (files edges combinations) → IsOutside found
-    combinations_outside None found is known = absurd is
-    combinations_outside (Some name) found is known = refused_outside (combinations_file name) found is (All-head (IsKnownAccepted content) (combinations_file name) [] (All-tail (IsKnownAccepted content) (edges_file edges) (combinations_file name ∷ []) known))
-
-module _ (content : List ℕ → Option (List ℕ)) where
-  -- among accepted files there is no first refusal
-  none_among : (refused : Refused) (all front : List File) (file : File) (back : List File) → all ≡ front ++ file ∷ back → All (IsAccepted content) all → IsSomeAnd (content file.name) (λ bytes. refusal_of file.role bytes ≡ Some refused) → ⊥
-  none_among refused [] [] file back order accepted refuses = absurd cc
-  none_among refused [] (head ∷ front) file back order accepted refuses = absurd cc
-  none_among refused (first ∷ all) [] file back order accepted refuses =
-      let same : first ≡ file = cc in
-      told_accepted (content first.name) first refused (All-head (IsAccepted content) first all accepted) (subst (λ (f : File). IsSomeAnd (content f.name) (λ bytes. refusal_of f.role bytes ≡ Some refused)) (sym same) refuses)
-  none_among refused (first ∷ all) (head ∷ front) file back order accepted refuses =
-      let rest : all ≡ front ++ file ∷ back = cc in
-      none_among refused all front file back rest (All-tail (IsAccepted content) first all accepted) refuses
-
-  pub accepted_first : (all : List File) (refused : Refused) → All (IsAccepted content) all → IsFirstRefusal content all refused → ⊥
-  accepted_first all refused accepted first = none_among refused all first.front first.file first.place.back first.place.order accepted first.refuses
-
--- what holds of a refusal in the second of two calls holds in both together
-pub refused_later : (content : List ℕ → Option (List ℕ)) (before between after : List ℕ → ℕ) (file : File) (found : Refused) → NoneFell before between → IsRefused content between after file found → IsRefused content before after file found
-refused_later content before between after file (ReadFailed role) fell is = (is.0, let low = fell file.name in let risen = is.1 in omega arith)
-refused_later content before between after file (TooLong role) fell is = is
-refused_later content before between after file (Table role fault) fell is = is
-refused_later content before between after file Memory fell is = tt
+  pub none_first : (files : List File) (contents : List Content) (refused : Refused) → AreAccepted known files contents → IsFirstRefusal known files refused → ⊥
+  none_first files contents refused are first = none_by_front refused contents first.front first.file first.place.back (are.of_files ∙ first.place.order) are.possible are.accepted first.refuses
 
 -- what an answer says that is an error made of this refusal
 module _ {X : Type 0} where
   pub if_err : (result : Result X Refused) (found : Refused) (P : Refused → Type 0) → IsErrAnd result (λ refused. refused ≡ found) → P found → IfErr result P
   if_err (Ok x) found P is holds = absurd is
   if_err (Err refused) found P is holds = subst P (sym is) holds
-
-  pub err_of : (result : Result X Refused) (found : Refused) → IsErrAnd result (λ refused. refused ≡ found) → IsErrOf result found
-  err_of (Ok x) found is = absurd is
-  err_of (Err refused) found is = ap Err is
 
   -- the answer is this refusal, want of memory, or a failed read
   pub errs_this : (result : Result X Refused) (found refused : Refused) → IsErrAnd result (λ e. e ≡ found) → IsThis found refused → IsErrOf result refused ⊎ IsErrOf result Memory ⊎ ((role : Role) × IsErrOf result (ReadFailed role))

@@ -16,7 +16,7 @@ use Rattle.std.proofs.lemmas.Map.Views.{btree_map_get_iff, tells_apart, All-turn
 use Rattle.pgr_outside.specs.Lists.{IsStrictlyRising}
 use Rattle.pgr_walks.specs.declared.link.LinkOf.{LinkOf}
 use Rattle.pgr_walks.specs.Walk.{IsWalk}
-use Rattle.pgr_answer.specs.Pairs.{IsAnswered}
+use Rattle.pgr_answer.specs.Pairs.{IsAnswerable}
 use Rattle.pgr_answer.specs.Answers.{Answer, AreAnswers, answer_cmp}
 use Rattle.pgr_answer.specs.Found.{answer_of, answers_of}
 use Rattle.pgr_answer.specs.Finding.{pair_cmp, IsAdded}
@@ -89,12 +89,12 @@ module _ {Shown : Type 0} (Has : LinkOf ℤ → Type 0) (Shows : ℤ → ℤ →
   entry_found : (found : BTreeMap (ℤ × ℤ) Shown) → IsOrdered pair_cmp found → (e : (ℤ × ℤ) × Shown) → Contains found.entries e → get pair_cmp found (e.0.0, e.0.1) ≡ Some e.1
   entry_found found ordered e there = (btree_map_get_iff pair_total pair_exact found ordered e.0 e.1).1 there
 
-  -- what is found for pairs that are answered are the answers to them
-  pub found_all : (pairs : List (ℤ × ℤ)) (found : BTreeMap (ℤ × ℤ) Shown) → AreFound Has Shows pairs found → ((start end : ℤ) → Contains pairs (end, start) → IsAnswered Has start end)
+  -- what is found for pairs that are answerable are the answers to them
+  pub found_all : (pairs : List (ℤ × ℤ)) (found : BTreeMap (ℤ × ℤ) Shown) → AreFound Has Shows pairs found → ((start end : ℤ) → Contains pairs (end, start) → IsAnswerable Has start end)
       → AreAnswers Has (λ start end. Contains pairs (end, start)) Shows (answers_of found.entries)
-  found_all pairs found are_found answered = record {
+  found_all pairs found are_found answerable = record {
     asked = each (λ a. Contains pairs (a.end, a.start)) are_found.asked;
-    answered = each (λ a. IsAnswered Has a.start a.end) (λ start end shown is. answered start end (are_found.asked start end shown is));
+    answerable = each (λ a. IsAnswerable Has a.start a.end) (λ start end shown is. answerable start end (are_found.asked start end shown is));
     shows = each (λ a. Shows a.start a.end a.shown) are_found.shows;
     every = λ start end walk there is_answered is_walk. let is = are_found.every start end walk there is_walk in some start end is.0 is.1;
     rise = rises;
@@ -120,9 +120,9 @@ module _ {Shown : Type 0} (Has : LinkOf ℤ → Type 0) (Shows : ℤ → ℤ →
         let key = λ (k : ℕ) (h : k < length found.entries). get_or-map (λ (e : (ℤ × ℤ) × Shown). e.0) found.entries k d d.0 h in
         rw (read i (omega arith), read j inside) (rw (key i (omega arith), key j inside) at in_order)
 
--- a pair that a loop over answered pairs comes to is answered
-pub answered_turn : (Has : LinkOf ℤ → Type 0) (pairs : List (ℤ × ℤ)) → ((start end : ℤ) → Contains pairs (end, start) → IsAnswered Has start end)
+-- a pair that a loop over answerable pairs comes to is answerable
+pub answered_turn : (Has : LinkOf ℤ → Type 0) (pairs : List (ℤ × ℤ)) → ((start end : ℤ) → Contains pairs (end, start) → IsAnswerable Has start end)
     → (done : List (Bor (ℤ × ℤ))) (all rest left : List (ℤ × ℤ)) (next : Option (Bor (ℤ × ℤ))) (pair : Bor (ℤ × ℤ))
-    → all ≡ pairs → Yields (TakesFirst deref) all done rest → next ≡ Some pair → TakesFirst deref rest next left → IsAnswered Has pair.now.1 pair.now.0
-answered_turn Has pairs answered done all rest left next pair starts yields is takes =
-    answered pair.now.1 pair.now.0 (All-turn deref (Contains pairs) pairs done all rest left next pair (All-contains_itself pairs) starts yields is takes)
+    → all ≡ pairs → Yields (TakesFirst deref) all done rest → next ≡ Some pair → TakesFirst deref rest next left → IsAnswerable Has pair.now.1 pair.now.0
+answered_turn Has pairs answerable done all rest left next pair starts yields is takes =
+    answerable pair.now.1 pair.now.0 (All-turn deref (Contains pairs) pairs done all rest left next pair (All-contains_itself pairs) starts yields is takes)

@@ -9,5 +9,6 @@ pub mod RisingLists
 pub mod OneTable
 pub mod LeastCosts
 pub mod FirstRefusals
-pub mod ReadTables
+pub mod ReadFiles
+pub mod KnownContents
 pub mod Examples

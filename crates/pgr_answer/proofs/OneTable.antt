@@ -15,12 +15,12 @@ use Rattle.pgr_words.specs.declared.command.Command.{Command}
 use Rattle.pgr_graph.specs.Links.{IsLinkOfTable}
 use Rattle.pgr_rows.specs.declared.rows.Rows.{Rows}
 use Rattle.pgr_rows.specs.declared.rows.Rows.TheVariants.{Paths, Costs}
-use Rattle.pgr_answer.specs.Pairs.{IsAnswered, IsAsked, IsAskedOfMatrix}
+use Rattle.pgr_answer.specs.Pairs.{IsAnswerable, IsAsked, IsAskedOfMatrix}
 use Rattle.pgr_answer.specs.Answers.{Answer, answer_cmp, AreAnswers}
 use Rattle.pgr_answer.specs.Costs.{IsLeastCost}
 use Rattle.pgr_answer.specs.CostTables.{IsCostTable, cost_row}
 use Rattle.pgr_answer.specs.Paths.{IsLeastBetween, IsPathTable, path_table}
-use Rattle.pgr_answer.specs.Tables.{Tables}
+use Rattle.pgr_answer.specs.declared.tables.Tables.{Tables}
 use Rattle.pgr_answer.specs.Allowed.{IsAllowed, IsAllowedFor}
 use Rattle.pgr_answer.proofs.RisingLists.{rising_is_one}
 
@@ -48,10 +48,10 @@ module _ {Shown : Type 0} (Has : LinkOf ℤ → Type 0) (Asked : ℤ → ℤ →
   stands : (answers others : List (Answer Shown)) → AreAnswers Has Asked Shows answers → AreAnswers Has Asked Shows others → (a : Answer Shown) → Contains answers a → Contains others a
   stands answers others are also a among =
       let asked = All-contains (λ answer. Asked answer.start answer.end) answers a are.asked among in
-      let answered = All-contains (λ answer. IsAnswered Has answer.start answer.end) answers a are.answered among in
+      let answerable = All-contains (λ answer. IsAnswerable Has answer.start answer.end) answers a are.answerable among in
       let shows = All-contains (λ answer. Shows answer.start answer.end answer.shown) answers a are.shows among in
       let walk = walk_of a.start a.end a.shown shows in
-      same_of_pair others also a shows (also.every a.start a.end walk.0 asked answered walk.1)
+      same_of_pair others also a shows (also.every a.start a.end walk.0 asked answerable walk.1)
 
   -- the answers are one list
   answers_are_one : (answers others : List (Answer Shown)) → AreAnswers Has Asked Shows answers → AreAnswers Has Asked Shows others → answers ≡ others
@@ -64,19 +64,15 @@ one_least_cost Has s t cost other least also = omega (arith, least.costs, also.c
 module _ (Has : LinkOf ℤ → Type 0) (Asked : ℤ → ℤ → Type 0) where
   -- one table of paths
   one_path_table : (rows other : Rows) → IsPathTable Has Asked rows → IsPathTable Has Asked other → rows ≡ other
-  one_path_table (Paths rows) (Paths other) (answers, are, rows_are) (others, also, other_are) =
+  one_path_table rows other (answers, are, rows_are) (others, also, other_are) =
       let same = answers_are_one Has Asked (IsLeastBetween Has) (λ s t walk least. (walk, least.belongs)) (λ s t. least_is_one int_cmp int_cmp_total int_tie (λ walk. IsWalk Has s walk t)) answers others are also in
-      ap Paths (rows_are ∙ ap path_table same ∙ sym other_are)
-  one_path_table (Paths rows) (Costs other) table also = absurd also
-  one_path_table (Costs rows) other table also = absurd table
+      rows_are ∙ ap (λ a. Paths (path_table a)) same ∙ sym other_are
 
   -- one table of costs
   one_cost_table : (rows other : Rows) → IsCostTable Has Asked rows → IsCostTable Has Asked other → rows ≡ other
-  one_cost_table (Costs rows) (Costs other) (answers, are, rows_are) (others, also, other_are) =
+  one_cost_table rows other (answers, are, rows_are) (others, also, other_are) =
       let same = answers_are_one Has Asked (IsLeastCost Has) (λ s t cost least. (least.walk, least.is_walk)) (one_least_cost Has) answers others are also in
-      ap Costs (rows_are ∙ ap (map cost_row) same ∙ sym other_are)
-  one_cost_table (Costs rows) (Paths other) table also = absurd also
-  one_cost_table (Paths rows) other table also = absurd table
+      rows_are ∙ ap (λ a. Costs (map cost_row a)) same ∙ sym other_are
 
 -- one table for each function
 one_for : (f : Function) (command : Command) (tables : Tables) (rows other : Rows) → IsAllowedFor f command tables rows → IsAllowedFor f command tables other → rows ≡ other

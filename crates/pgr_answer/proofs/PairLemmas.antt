@@ -11,8 +11,8 @@ use Rattle.std.proofs.lemmas.Map.Views.{All-insert_key}
 use Rattle.pgr_table.specs.declared.row.PairRow.{PairRow}
 use Rattle.pgr_walks.specs.declared.link.LinkOf.{LinkOf}
 use Rattle.pgr_numbers.specs.Names.{AreEnds}
-use Rattle.pgr_answer.specs.Pairs.{IsAsked, IsAnswered}
-use Rattle.pgr_answer.specs.Gathering.{Gathers, IsAnswerable, IsThisPair, IsPairFrom, IsPairOfLists, IsPairOfRows}
+use Rattle.pgr_answer.specs.Pairs.{IsAsked, IsAnswerable}
+use Rattle.pgr_answer.specs.Gathering.{Gathers, IsAnswerableAmong, IsThisPair, IsPairFrom, IsPairOfLists, IsPairOfRows}
 
 -- a list contains what it begins with
 head_is_in : {X : Type 0} (y : X) (ys : List X) (x : X) → y ≡ x → Contains (y ∷ ys) x
@@ -67,7 +67,7 @@ pair_put_in first second old new new_is x =
     )
 
 -- a pair that can be answered is added where it is put in
-pub gathers_pair : (names : List ℤ) (start end : ℤ) (old new : List (ℤ × ℤ)) → IsAnswerable names start end → new ≡ insert_key pair_cmp old (end, start) → Gathers names (IsThisPair start end) old new
+pub gathers_pair : (names : List ℤ) (start end : ℤ) (old new : List (ℤ × ℤ)) → IsAnswerableAmong names start end → new ≡ insert_key pair_cmp old (end, start) → Gathers names (IsThisPair start end) old new
 gathers_pair names start end old new answerable new_is =
     record {
       exactly = λ s e. let k = pair_put_in end start old new new_is (e, s) in (
@@ -77,12 +77,12 @@ gathers_pair names start end old new answerable new_is =
     }
 
 -- nothing is added where no pair can be answered
-gathers_nothing : (names : List ℤ) (IsAdded : ℤ → ℤ → Type 0) (keys : List (ℤ × ℤ)) → ((start end : ℤ) → IsAdded start end → IsAnswerable names start end → ⊥) → Gathers names IsAdded keys keys
+gathers_nothing : (names : List ℤ) (IsAdded : ℤ → ℤ → Type 0) (keys : List (ℤ × ℤ)) → ((start end : ℤ) → IsAdded start end → IsAnswerableAmong names start end → ⊥) → Gathers names IsAdded keys keys
 gathers_nothing names IsAdded keys none =
     record { exactly = λ start end. (inl, ⊎_elim (λ h. h) (λ h. absurd (none start end h.0 h.1))) }
 
 -- a pair that can't be answered is not added
-pub gathers_not : (names : List ℤ) (start end : ℤ) (keys : List (ℤ × ℤ)) → (IsAnswerable names start end → ⊥) → Gathers names (IsThisPair start end) keys keys
+pub gathers_not : (names : List ℤ) (start end : ℤ) (keys : List (ℤ × ℤ)) → (IsAnswerableAmong names start end → ⊥) → Gathers names (IsThisPair start end) keys keys
 gathers_not names start end keys not = gathers_nothing names (IsThisPair start end) keys (λ s e this answerable. not (rw (← this.0, ← this.1) answerable))
 
 -- two steps add what either of them adds
@@ -131,12 +131,8 @@ gathers_row names rows i row old middle new here so_far more =
       ⊎_elim (λ h. k.1 (inl h)) (λ h. let same : this ≡ row = (λ j. record { source = h.0 j; target = h.1 j }) in k.1 (inr (same ∙ sym row_is))),
     ))
 
--- no rows add nothing
-pub gathers_no_rows : (names : List ℤ) (keys : List (ℤ × ℤ)) → Gathers names (IsPairOfRows []) keys keys
-gathers_no_rows names keys = gathers_nothing names (IsPairOfRows []) keys (λ start end h answerable. omega (arith, h.1))
-
 -- among the names of the ends of links, what is added to no pairs are those that are asked for and answered
-pub gathered_is_answered : (links : List (LinkOf ℤ)) (names starts ends : List ℤ) (rows : List PairRow) (old middle new : List (ℤ × ℤ)) → AreEnds links names → old ≡ [] → Gathers names (IsPairOfLists starts ends) old middle → Gathers names (IsPairOfRows rows) middle new → (start end : ℤ) → Contains new (end, start) ↔ (IsAsked starts ends rows start end × IsAnswered (Contains links) start end)
+pub gathered_is_answered : (links : List (LinkOf ℤ)) (names starts ends : List ℤ) (rows : List PairRow) (old middle new : List (ℤ × ℤ)) → AreEnds links names → old ≡ [] → Gathers names (IsPairOfLists starts ends) old middle → Gathers names (IsPairOfRows rows) middle new → (start end : ℤ) → Contains new (end, start) ↔ (IsAsked starts ends rows start end × IsAnswerable (Contains links) start end)
 gathered_is_answered links names starts ends rows old middle new are_ends none of_lists of_rows start end =
     let both : Gathers names (IsAsked starts ends rows) old new = gathers_both names _ _ _ old middle new of_lists of_rows (λ s e. (λ h. h, λ h. h)) in
     let P : List (ℤ × ℤ) → Type 0 = λ keys. Contains keys (end, start) in

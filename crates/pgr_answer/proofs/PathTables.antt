@@ -7,7 +7,7 @@ use Rattle.pgr_route.specs.declared.step.Step.{Step}
 use Rattle.pgr_route.specs.Steps.{steps_of}
 use Rattle.pgr_numbers.specs.Names.{named}
 use Rattle.pgr_rows.specs.declared.rows.PathRow.{PathRow}
-use Rattle.pgr_answer.specs.Paths.{path_row, path_rows, rows_of, numbered_from}
+use Rattle.pgr_answer.specs.Paths.{path_row, path_rows, rows_of_walk, numbered_from}
 use Rattle.pgr_answer.specs.Found.{walks_of}
 
 -- numbering changes the number of no rows
@@ -75,13 +75,13 @@ path_all before start end steps i rows all is = is ∙ ap (with_path before star
 
 -- rows, and behind them the numbered rows of the routes of entries
 abbrev pub with_routes : List PathRow → List ℤ → List ((ℤ × ℤ) × List (LinkOf ℕ)) → List PathRow
-with_routes rows names entries = rows ++ numbered_from (length rows + 1) (flat_map rows_of (walks_of names entries))
+with_routes rows names entries = rows ++ numbered_from (length rows + 1) (flat_map rows_of_walk (walks_of names entries))
 
 -- the rows with the path of the first entry, and behind them those of the other entries
 pub with_routes-first : (rows : List PathRow) (names : List ℤ) (start end : ℤ) (route : List (LinkOf ℕ)) (rest : List ((ℤ × ℤ) × List (LinkOf ℕ))) → with_routes (with_path rows start end (steps_of (map (named names) route))) names rest ≡ with_routes rows names (((start, end), route) ∷ rest)
 with_routes-first rows names start end route rest =
     let path = path_rows start end 1 (steps_of (map (named names) route)) in
-    let others = flat_map rows_of (walks_of names rest) in
+    let others = flat_map rows_of_walk (walks_of names rest) in
     let n = length rows + 1 in
     let len : length (rows ++ numbered_from n path) + 1 ≡ n + length path = omega (arith, length-append rows (numbered_from n path), length-numbered_from n path) in
     ap (λ m. (rows ++ numbered_from n path) ++ numbered_from m others) len

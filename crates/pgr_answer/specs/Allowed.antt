@@ -1,9 +1,12 @@
--- The tables that a command may be answered with: one case for each function.
+-- The rows that a command may be answered with: one case for each function.
+use Rattle.std.specs.Prelude.{ℕ, List, Option}
 use Rattle.pgr_words.specs.declared.function.Function.{Function}
 use Rattle.pgr_words.specs.declared.function.Function.TheVariants as function
 use Rattle.pgr_words.specs.declared.command.Command.{Command}
 use Rattle.pgr_rows.specs.declared.rows.Rows.{Rows}
-use Rattle.pgr_answer.specs.Tables.{Tables}
+use Rattle.pgr_answer.specs.declared.tables.Tables.{Tables}
+use Rattle.pgr_answer.specs.Files.{Content, files_of, AreAccepted}
+use Rattle.pgr_answer.specs.Contents.{tables_of}
 use Rattle.pgr_answer.specs.Dijkstra.{IsDijkstra}
 use Rattle.pgr_answer.specs.DijkstraCost.{IsDijkstraCost}
 use Rattle.pgr_answer.specs.DijkstraCostMatrix.{IsDijkstraCostMatrix}
@@ -17,3 +20,9 @@ IsAllowedFor function.DijkstraCostMatrix command tables rows = IsDijkstraCostMat
 -- the rows are allowed for a command over these tables
 abbrev pub IsAllowed : Command → Tables → Rows → Type 0
 IsAllowed command tables rows = IsAllowedFor command.function command tables rows
+
+-- rows that answer a command: its files have contents, the known ones where they are known, each of them an accepted table of its role, and the rows are allowed over the tables that they are
+pub record AnswersCommand (command : Command) (known : List ℕ → Option (List ℕ)) (rows : Rows) : Type 0 where
+  pub contents : List Content
+  pub accepted : AreAccepted known (files_of command) contents
+  pub allowed : IsAllowed command (tables_of contents) rows

@@ -3,7 +3,7 @@ use Rattle.std.specs.Prelude.{◌≡◌, ℕ, ℤ, List, map}
 use Rattle.pgr_walks.specs.declared.link.LinkOf.{LinkOf}
 use Rattle.pgr_rows.specs.declared.rows.CostRow.{CostRow}
 use Rattle.pgr_rows.specs.declared.rows.Rows.{Rows}
-use Rattle.pgr_rows.specs.declared.rows.Rows.TheVariants.{Paths, Costs}
+use Rattle.pgr_rows.specs.declared.rows.Rows.TheVariants.{Costs}
 use Rattle.pgr_answer.specs.Costs.{IsLeastCost}
 use Rattle.pgr_answer.specs.Answers.{Answer, AreAnswers}
 
@@ -11,7 +11,6 @@ use Rattle.pgr_answer.specs.Answers.{Answer, AreAnswers}
 abbrev pub cost_row : Answer ℕ → CostRow
 cost_row answer = record { start_vid = answer.start; end_vid = answer.end; agg_cost = answer.shown }
 
--- a table of the costs between asked pairs: one row with the least cost for each asked pair that is answered and has a walk
+-- a table of the costs between asked pairs: one row with the least cost for each asked pair that can be answered and has a walk
 abbrev pub IsCostTable : (LinkOf ℤ → Type 0) → (ℤ → ℤ → Type 0) → Rows → Type 0
-IsCostTable Has Asked (Costs rows) = (answers : List (Answer ℕ)) × AreAnswers Has Asked (IsLeastCost Has) answers × (rows ≡ map cost_row answers)
-IsCostTable Has Asked (Paths rows) = ⊥
+IsCostTable Has Asked rows = (answers : List (Answer ℕ)) × AreAnswers Has Asked (IsLeastCost Has) answers × (rows ≡ Costs (map cost_row answers))

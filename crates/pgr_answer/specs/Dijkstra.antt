@@ -4,7 +4,7 @@ use Rattle.pgr_graph.specs.Links.{IsLinkOfTable}
 use Rattle.pgr_rows.specs.declared.rows.Rows.{Rows}
 use Rattle.pgr_answer.specs.Pairs.{IsAsked}
 use Rattle.pgr_answer.specs.Paths.{IsPathTable}
-use Rattle.pgr_answer.specs.Tables.{Tables}
+use Rattle.pgr_answer.specs.declared.tables.Tables.{Tables}
 
 -- the paths between the pairs of the starts and ends and the combinations, over the links of the edges
 abbrev pub IsDijkstra : Command → Tables → Rows → Type 0

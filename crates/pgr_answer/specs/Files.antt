@@ -1,14 +1,13 @@
--- The files that a command names, and why the content of one isn't a table of its role.
-use Rattle.std.specs.Prelude.{◌≡◌, ℕ, List, ◌∷◌, length, if◌then◌else◌, nat_lt, Option, Some, None, option_map, IfSome, IsSomeAnd, Result, Ok, Err}
+-- The files that a command names, and the contents that they may have.
+use Rattle.std.specs.Prelude.{◌≡◌, ℕ, List, map, flat_map, All, length, if◌then◌else◌, nat_lt, Option, Some, None, option_map, IfSome, IsSomeAnd, Result, Ok, Err}
 use Rattle.std.specs.Option.{option_to_list}
 use Rattle.pgr_words.specs.declared.command.Command.{Command}
 use Rattle.pgr_table.specs.declared.fault.TableFault.{TableFault}
-use Rattle.pgr_table.specs.Edges.{judged_edges}
-use Rattle.pgr_table.specs.Pairs.{judged_pairs}
 use Rattle.pgr_answer.specs.declared.role.Role.{Role}
-use Rattle.pgr_answer.specs.declared.role.Role.TheVariants.{Edges, Combinations}
 use Rattle.pgr_answer.specs.declared.refused.Refused.{Refused}
 use Rattle.pgr_answer.specs.declared.refused.Refused.TheVariants.{TooLong, Table}
+use Rattle.pgr_answer.specs.Roles.{roles, file_name_of}
+use Rattle.pgr_answer.specs.Tables.{judged_as}
 
 -- the greatest number of bytes of a file
 abbrev pub most_bytes : ℕ
@@ -19,28 +18,42 @@ pub record File : Type 0 where
   pub role : Role
   pub name : List ℕ
 
--- the files that a command names, in the order in which they are read: the edges, then the combinations
-abbrev pub files_of : Command → List File
-files_of command = record { role = Edges; name = command.edges } ∷ option_to_list (option_map (λ name. record { role = Combinations; name = name }) command.combinations)
+-- the file that has this role to a command, or no file
+abbrev pub files_with : Command → Role → List File
+files_with command role = option_to_list (option_map (λ name. record { role = role; name = name }) (file_name_of command role))
 
--- the fault of a verdict on a table, if it has one
-abbrev pub fault_in : {Rows : Type 0} → Result Rows TableFault → Option TableFault
-fault_in (Ok rows) = None
+-- the files that a command names, in the order in which they are read
+abbrev pub files_of : Command → List File
+files_of command = flat_map (files_with command) roles
+
+-- a file with bytes that may be its content
+pub record Content : Type 0 where
+  pub file : File
+  pub bytes : List ℕ
+
+-- the bytes are the file's known content, where that is known
+abbrev pub IsPossible : (List ℕ → Option (List ℕ)) → Content → Type 0
+IsPossible known content = IfSome (known content.file.name) (λ bytes. content.bytes ≡ bytes)
+
+-- the fault of a verdict, if it has one
+abbrev pub fault_in : {X : Type 0} → Result X TableFault → Option TableFault
+fault_in (Ok x) = None
 fault_in (Err fault) = Some fault
 
--- the first fault of the bytes of a table with this role, if they have one
-abbrev pub fault_of : Role → List ℕ → Option TableFault
-fault_of Edges bytes = fault_in (judged_edges bytes)
-fault_of Combinations bytes = fault_in (judged_pairs bytes)
-
--- why a content isn't an accepted table of this role: it has more bytes than a file may have, or else its first fault; and none where it is one
+-- why bytes aren't an accepted table of this role: there are more of them than a file may have, or else their first fault; and none where they are one
 abbrev pub refusal_of : Role → List ℕ → Option Refused
-refusal_of role bytes = if nat_lt most_bytes (length bytes) then Some (TooLong role) else option_map (Table role) (fault_of role bytes)
+refusal_of role bytes = if nat_lt most_bytes (length bytes) then Some (TooLong role) else option_map (Table role) (fault_in (judged_as role bytes))
 
--- the file is accepted, as far as its content is told
-abbrev pub IsAccepted : (List ℕ → Option (List ℕ)) → File → Type 0
-IsAccepted content file = IfSome (content file.name) (λ bytes. refusal_of file.role bytes ≡ None)
+-- the bytes are an accepted table of the file's role
+abbrev pub IsAccepted : Content → Type 0
+IsAccepted content = refusal_of content.file.role content.bytes ≡ None
 
--- the file's content is told, and it is accepted
+-- contents of these files, in their order: each is the known one where that is known, and an accepted table of its role
+pub record AreAccepted (known : List ℕ → Option (List ℕ)) (files : List File) (contents : List Content) : Type 0 where
+  pub of_files : map (λ content. content.file) contents ≡ files
+  pub possible : All (IsPossible known) contents
+  pub accepted : All IsAccepted contents
+
+-- the file's content is known, and is an accepted table of its role
 abbrev pub IsKnownAccepted : (List ℕ → Option (List ℕ)) → File → Type 0
-IsKnownAccepted content file = IsSomeAnd (content file.name) (λ bytes. refusal_of file.role bytes ≡ None)
+IsKnownAccepted known file = IsSomeAnd (known file.name) (λ bytes. refusal_of file.role bytes ≡ None)

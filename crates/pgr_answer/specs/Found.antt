@@ -1,7 +1,6 @@
 -- What is found for pairs of vertices, as a map by start and end has it.
-use Rattle.std.specs.Prelude.{ℕ, List, [], map, ℤ, Option, Some, None}
+use Rattle.std.specs.Prelude.{ℕ, List, map, ℤ}
 use Rattle.pgr_walks.specs.declared.link.LinkOf.{LinkOf}
-use Rattle.pgr_table.specs.declared.row.PairRow.{PairRow}
 use Rattle.pgr_numbers.specs.Names.{named}
 use Rattle.pgr_answer.specs.Answers.{Answer}
 
@@ -20,8 +19,3 @@ seen f answer = record { start = answer.start; end = answer.end; shown = f answe
 -- the answers of routes between numbers, as walks between the ids that they stand for
 abbrev pub walks_of : List ℤ → List ((ℤ × ℤ) × List (LinkOf ℕ)) → List (Answer (List (LinkOf ℤ)))
 walks_of names entries = map (seen (map (named names))) (answers_of entries)
-
--- the rows of a table that may be there, and none where there is none
-abbrev pub rows_or_none : Option (List PairRow) → List PairRow
-rows_or_none (Some rows) = rows
-rows_or_none None = []

@@ -3,12 +3,12 @@ use Rattle.std.specs.Prelude.{◌≡◌, ◌≢◌, ◌⊎◌, ◌↔◌, List, 
 use Rattle.pgr_table.specs.declared.row.PairRow.{PairRow}
 
 -- a pair that can be answered among names: both are names, and they differ
-abbrev pub IsAnswerable : List ℤ → ℤ → ℤ → Type 0
-IsAnswerable names start end = Contains names start × Contains names end × (start ≢ end)
+abbrev pub IsAnswerableAmong : List ℤ → ℤ → ℤ → Type 0
+IsAnswerableAmong names start end = Contains names start × Contains names end × (start ≢ end)
 
 -- the keys, each an end and its start, are the old ones and those pairs that can be answered
 pub record Gathers (names : List ℤ) (IsAdded : ℤ → ℤ → Type 0) (old new : List (ℤ × ℤ)) : Type 0 where
-  pub exactly : (start end : ℤ) → Contains new (end, start) ↔ (Contains old (end, start) ⊎ (IsAdded start end × IsAnswerable names start end))
+  pub exactly : (start end : ℤ) → Contains new (end, start) ↔ (Contains old (end, start) ⊎ (IsAdded start end × IsAnswerableAmong names start end))
 
 -- the one pair
 abbrev pub IsThisPair : ℤ → ℤ → ℤ → ℤ → Type 0

@@ -1,12 +1,13 @@
 pub mod Roles
+pub mod Tables
 pub mod Files
+pub mod Contents
 pub mod Refusals
 pub mod Pairs
 pub mod Costs
 pub mod Answers
 pub mod Paths
 pub mod CostTables
-pub mod Tables
 pub mod Dijkstra
 pub mod DijkstraCost
 pub mod DijkstraCostMatrix

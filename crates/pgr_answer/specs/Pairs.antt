@@ -1,4 +1,4 @@
--- Pairs of vertices: which are asked for, and which are answered.
+-- Pairs of vertices: which are asked for, and which can be answered.
 use Rattle.std.specs.Prelude.{◌≢◌, ◌⊎◌, List, Contains, ℤ}
 use Rattle.pgr_table.specs.declared.row.PairRow.{PairRow}
 use Rattle.pgr_walks.specs.declared.link.LinkOf.{LinkOf}
@@ -12,8 +12,8 @@ IsAsked starts ends combinations start end = (Contains starts start × Contains 
 abbrev pub IsAskedOfMatrix : List ℤ → ℤ → ℤ → Type 0
 IsAskedOfMatrix vids start end = Contains vids start × Contains vids end × (start ≢ end)
 
--- a pair that is answered over a set of links: both are vertices, and they differ
-pub record IsAnswered (Has : LinkOf ℤ → Type 0) (start end : ℤ) : Type 0 where
+-- a pair that can be answered over a set of links: both are vertices, and they differ
+pub record IsAnswerable (Has : LinkOf ℤ → Type 0) (start end : ℤ) : Type 0 where
   pub start_is_vertex : IsVertex Has start
   pub end_is_vertex : IsVertex Has end
   pub differ : start ≢ end

@@ -8,7 +8,7 @@ use Rattle.pgr_route.specs.declared.step.Step.{Step}
 use Rattle.pgr_route.specs.Steps.{steps_of}
 use Rattle.pgr_rows.specs.declared.rows.PathRow.{PathRow}
 use Rattle.pgr_rows.specs.declared.rows.Rows.{Rows}
-use Rattle.pgr_rows.specs.declared.rows.Rows.TheVariants.{Paths, Costs}
+use Rattle.pgr_rows.specs.declared.rows.Rows.TheVariants.{Paths}
 use Rattle.pgr_answer.specs.Answers.{Answer, AreAnswers}
 
 -- the row of the nth step of the path from start to end; it has the number 0 until the rows of its table are numbered
@@ -21,8 +21,8 @@ path_rows start end n [] = []
 path_rows start end n (step ∷ steps) = path_row start end n step ∷ path_rows start end (n + 1) steps
 
 -- the rows of the walk that answers a pair: one for each step, numbered in the path from 1
-abbrev pub rows_of : Answer (List (LinkOf ℤ)) → List PathRow
-rows_of answer = path_rows answer.start answer.end 1 (steps_of answer.shown)
+abbrev pub rows_of_walk : Answer (List (LinkOf ℤ)) → List PathRow
+rows_of_walk answer = path_rows answer.start answer.end 1 (steps_of answer.shown)
 
 -- rows with the numbers from n on
 abbrev pub numbered_from : ℕ → List PathRow → List PathRow
@@ -31,13 +31,12 @@ numbered_from n (row ∷ rows) = record row { seq = n } ∷ numbered_from (n + 1
 
 -- the rows of the walks that answer pairs, one walk after the other, numbered over the whole table from 1
 abbrev pub path_table : List (Answer (List (LinkOf ℤ))) → List PathRow
-path_table answers = numbered_from 1 (flat_map rows_of answers)
+path_table answers = numbered_from 1 (flat_map rows_of_walk answers)
 
 -- a walk that is least between its ends: it precedes every other walk over the links from s to t
 abbrev pub IsLeastBetween : (LinkOf ℤ → Type 0) → ℤ → ℤ → List (LinkOf ℤ) → Type 0
 IsLeastBetween Has s t walk = IsLeast int_cmp (λ other. IsWalk Has s other t) walk
 
--- a table of the paths between asked pairs: the rows of the least walk of each asked pair that is answered and has a walk
+-- a table of the paths between asked pairs: the rows of the least walk of each asked pair that can be answered and has a walk
 abbrev pub IsPathTable : (LinkOf ℤ → Type 0) → (ℤ → ℤ → Type 0) → Rows → Type 0
-IsPathTable Has Asked (Paths rows) = (answers : List (Answer (List (LinkOf ℤ)))) × AreAnswers Has Asked (IsLeastBetween Has) answers × (rows ≡ path_table answers)
-IsPathTable Has Asked (Costs rows) = ⊥
+IsPathTable Has Asked rows = (answers : List (Answer (List (LinkOf ℤ)))) × AreAnswers Has Asked (IsLeastBetween Has) answers × (rows ≡ Paths (path_table answers))

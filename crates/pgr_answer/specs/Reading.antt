@@ -1,17 +1,20 @@
--- What is read of the files of a command.
-use Rattle.std.specs.Prelude.{◌≡◌, ℕ, List, Option, Some, None, Ok, IfSome, IsSomeAnd}
-use Rattle.pgr_table.specs.declared.row.PairRow.{PairRow}
-use Rattle.pgr_table.specs.Pairs.{judged_pairs}
-use Rattle.pgr_answer.specs.declared.role.Role.TheVariants.{Combinations}
-use Rattle.pgr_answer.specs.declared.refused.Refused.{Refused}
-use Rattle.pgr_answer.specs.Files.{refusal_of}
-use Rattle.pgr_answer.specs.Refusals.{IsRefused}
+-- What is read of files: tables, one file after the other.
+use Rattle.std.specs.Prelude.{◌≡◌, ℕ, List, fold, Option, Result, Ok, Err}
+use Rattle.pgr_table.specs.declared.fault.TableFault.{TableFault}
+use Rattle.pgr_table.specs.declared.fault.TableRefused.{TableRefused}
+use Rattle.pgr_table.specs.declared.fault.TableRefused.TheVariants.{Fault, Memory}
+use Rattle.pgr_answer.specs.declared.tables.Tables.{Tables}
+use Rattle.pgr_answer.specs.Contents.{after, with_content}
+use Rattle.pgr_answer.specs.Files.{File, Content, AreAccepted}
 
--- the rows of the file of combinations, if one is named: it is accepted, as far as it is told, and these are its rows
-abbrev pub AreCombinations : (List ℕ → Option (List ℕ)) → Option (List ℕ) → Option (List PairRow) → Type 0
-AreCombinations content None rows = rows ≡ None
-AreCombinations content (Some name) rows = IsSomeAnd rows (λ rows. IfSome (content name) (λ bytes. (refusal_of Combinations bytes ≡ None) × (judged_pairs bytes ≡ Ok rows)))
+-- a table was read: by this verdict its rows are in their place, or the verdict is the fault that refuses it
+abbrev pub IsTableRead : Result (Unit {0}) TableRefused → Result (Tables → Tables) TableFault → Tables → Tables → Type 0
+IsTableRead (Ok _) verdict old new = (place : Tables → Tables) × (verdict ≡ Ok place) × (new ≡ place old)
+IsTableRead (Err (Fault fault)) verdict old new = verdict ≡ Err fault
+IsTableRead (Err Memory) verdict old new = Unit {0}
 
--- the file of combinations that is named is refused so
-abbrev pub AreCombinationsRefused : (List ℕ → Option (List ℕ)) → (List ℕ → ℕ) → (List ℕ → ℕ) → Option (List ℕ) → Refused → Type 0
-AreCombinationsRefused content before after name refused = IsSomeAnd name (λ name. IsRefused content before after (record { role = Combinations; name = name }) refused)
+-- files were read: they have contents, the known ones where they are known, each of them an accepted table of its role, and the rows of these are in their places
+pub record AreRead (known : List ℕ → Option (List ℕ)) (files : List File) (old new : Tables) : Type 0 where
+  pub contents : List Content
+  pub accepted : AreAccepted known files contents
+  pub tables : new ≡ fold with_content old contents

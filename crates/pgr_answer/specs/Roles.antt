@@ -1,9 +1,19 @@
--- What a file is to a command, as messages call it.
-use Rattle.std.specs.Prelude.{ℕ, List, codes}
+-- What a file is to a command: which files it names, in which order, and what messages call them.
+use Rattle.std.specs.Prelude.{ℕ, List, [], ◌∷◌, Option, Some, codes}
+use Rattle.pgr_words.specs.declared.command.Command.{Command}
 use Rattle.pgr_answer.specs.declared.role.Role.{Role}
 use Rattle.pgr_answer.specs.declared.role.Role.TheVariants.{Edges, Combinations}
+
+-- the roles, in the order in which their files are read
+abbrev pub roles : List Role
+roles = Edges ∷ Combinations ∷ []
 
 -- what a role is called: as the option that names its file
 abbrev pub name_of : Role → List ℕ
 name_of Edges = codes "edges"
 name_of Combinations = codes "combinations"
+
+-- the name of the file that has this role to a command, if the command names one
+abbrev pub file_name_of : Command → Role → Option (List ℕ)
+file_name_of command Edges = Some command.edges
+file_name_of command Combinations = command.combinations

@@ -1,17 +1,21 @@
--- The tables that a command asks about.
-use Rattle.std.specs.Prelude.{◌≡◌, ℕ, List, [], Option, Ok, IsSomeAnd, MatchOption}
-use Rattle.pgr_words.specs.declared.command.Command.{Command}
-use Rattle.pgr_table.specs.declared.row.EdgeRow.{EdgeRow}
-use Rattle.pgr_table.specs.declared.row.PairRow.{PairRow}
-use Rattle.pgr_table.specs.Edges.{judged_edges}
-use Rattle.pgr_table.specs.Pairs.{judged_pairs}
+-- The tables that a command asks about, one of each kind: what contents of its files are.
+use Rattle.std.specs.Prelude.{ℕ, List, [], fold, Result, Ok, Err}
+use Rattle.pgr_table.specs.Judging.{judged_edges, judged_pairs}
+use Rattle.pgr_table.specs.declared.fault.TableFault.{TableFault}
+use Rattle.pgr_answer.specs.declared.role.Role.{Role}
+use Rattle.pgr_answer.specs.declared.role.Role.TheVariants.{Edges, Combinations}
+use Rattle.pgr_answer.specs.declared.tables.Tables.{Tables}
 
--- the rows of the tables of a command
-pub record Tables : Type 0 where
-  pub edges : List EdgeRow
-  pub combinations : List PairRow
+-- no table has a row
+abbrev pub no_tables : Tables
+no_tables = record { edges = []; combinations = [] }
 
--- the contents of the command's files are told, and are these tables; without a file of combinations there are none
-pub record AreTables (content : List ℕ → Option (List ℕ)) (command : Command) (tables : Tables) : Type 0 where
-  pub edges : IsSomeAnd (content command.edges) (λ bytes. judged_edges bytes ≡ Ok tables.edges)
-  pub combinations : MatchOption command.combinations (tables.combinations ≡ []) (λ name. IsSomeAnd (content name) (λ bytes. judged_pairs bytes ≡ Ok tables.combinations))
+-- a verdict with its rows put among tables
+abbrev pub put : {Rows : Type 0} → (Rows → Tables → Tables) → Result Rows TableFault → Result (Tables → Tables) TableFault
+put place (Ok rows) = Ok (place rows)
+put place (Err fault) = Err fault
+
+-- the verdict on the bytes of a table of this role: where its rows belong among the tables, or its first fault
+abbrev pub judged_as : Role → List ℕ → Result (Tables → Tables) TableFault
+judged_as Edges bytes = put (λ rows tables. record tables { edges = rows }) (judged_edges bytes)
+judged_as Combinations bytes = put (λ rows tables. record tables { combinations = rows }) (judged_pairs bytes)

@@ -1,7 +1,6 @@
 ghost use Rattle.std.specs.Prelude.{IfOk};
 ghost use Rattle.pgr_graph.specs.Links.{IsLinkOfTable};
 ghost use Rattle.pgr_answer.specs.CostTables.{IsCostTable};
-ghost use Rattle.pgr_answer.specs.Found.{rows_or_none};
 ghost use Rattle.pgr_answer.specs.Pairs.{IsAsked};
 
 use crate::cost_rows::rows_of_costs;
@@ -14,7 +13,7 @@ use pgr_rows::Rows;
 use pgr_table::{EdgeTable, PairTable};
 use std::alloc::Global;
 
-/// The costs between the pairs of starts and ends and the combinations that are answered and have a walk.
+/// The costs between the pairs of starts and ends and the combinations that can be answered and have a walk.
 ///
 /// They go over the links of a table, in the directed graph or the undirected one. `NoMemory` may come at any call.
 pub(crate) fn costs_between(
@@ -23,9 +22,9 @@ pub(crate) fn costs_between(
     directed: bool,
     starts: &[i64],
     ends: &[i64],
-    combinations: &Option<PairTable>,
+    combinations: &PairTable,
 ) -> Result<Rows, NoMemory>
-    ensures { IfOk result (IsCostTable (IsLinkOfTable edges.now directed) (IsAsked starts.now ends.now (rows_or_none combinations.now))) }
+    ensures { IfOk result (IsCostTable (IsLinkOfTable edges.now directed) (IsAsked starts.now ends.now combinations.now)) }
 {
     let network = network_of(alloc, edges, directed)?;
     let pairs = answered_pairs(alloc, &network, starts, ends, combinations)?;

@@ -1,10 +1,11 @@
-ghost use Rattle.std.specs.Prelude.{[], IfOk};
+ghost use Rattle.std.specs.Prelude.{IfOk};
 ghost use Rattle.pgr_answer.specs.DijkstraCostMatrix.{IsDijkstraCostMatrix};
 
 use crate::costs::costs_between;
+use crate::tables::Tables;
 use pgr_outside::NoMemory;
 use pgr_rows::Rows;
-use pgr_table::EdgeTable;
+use pgr_table::PairTable;
 use pgr_words::Command;
 use std::alloc::Global;
 
@@ -14,10 +15,11 @@ use std::alloc::Global;
 pub(crate) fn dijkstra_cost_matrix_rows(
     alloc: Global,
     command: &Command,
-    edges: &EdgeTable,
+    tables: &Tables,
 ) -> Result<Rows, NoMemory>
-    ensures { IfOk result (IsDijkstraCostMatrix command.now (record { edges = edges.now; combinations = [] })) }
+    ensures { IfOk result (IsDijkstraCostMatrix command.now tables.now) }
 {
     let vids = command.vids.as_slice();
-    costs_between(alloc, edges, command.directed, vids, vids, &None)
+    let none = PairTable::empty(alloc);
+    costs_between(alloc, &tables.edges, command.directed, vids, vids, &none)
 }

@@ -4,7 +4,7 @@ ghost use Rattle.pgr_walks.specs.Graph.{IsLinkOf};
 ghost use Rattle.pgr_walks.specs.Label.{HoldsLabels};
 ghost use Rattle.pgr_numbers.specs.Names.{id_at};
 ghost use Rattle.pgr_answer.specs.Networks.{IsNetwork};
-ghost use Rattle.pgr_answer.specs.Pairs.{IsAnswered};
+ghost use Rattle.pgr_answer.specs.Pairs.{IsAnswerable};
 ghost use Rattle.pgr_answer.specs.Answers.{AreAnswers};
 ghost use Rattle.pgr_answer.specs.Found.{answers_of};
 ghost use Rattle.pgr_answer.specs.Finding.{pair_cmp, HoldsLabelsTo, IsAdded};
@@ -28,7 +28,7 @@ pub(crate) fn found_for<G: Graph, K: Kept>(
     pairs: &BTreeSet<(i64, i64)>,
 ) -> Result<BTreeMap<(i64, i64), K>, NoMemory>
     requires network { IsNetwork network.now.links.items network.now.names (G.count network.now.graph) (G.ins network.now.graph) }
-    requires answered { (start end : ℤ) → Contains pairs.now.keys (end, start) → IsAnswered (Contains network.now.links.items) start end }
+    requires answerable { (start end : ℤ) → Contains pairs.now.keys (end, start) → IsAnswerable (Contains network.now.links.items) start end }
     ensures { IfOk result (λ found. AreAnswers (Contains network.now.links.items) (λ start end. Contains pairs.now.keys (end, start))
         (K.shows network.now.links.items network.now.names) (answers_of found.entries)) }
 {

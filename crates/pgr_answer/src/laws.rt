@@ -1,26 +1,33 @@
-ghost use Rattle.std.specs.Prelude.{◌≡◌, ℕ, ℤ, List, Option, Contains};
+ghost use Rattle.std.specs.Prelude.{◌≡◌, ℕ, ℤ, List, All, Option, Contains, IsSome};
 ghost use Rattle.pgr_walks.specs.declared.link.LinkOf.{LinkOf};
 ghost use Rattle.pgr_walks.specs.Walk.{cost_of};
 ghost use Rattle.pgr_words.specs.declared.command.Command.{Command};
 ghost use Rattle.pgr_rows.specs.declared.rows.Rows.{Rows};
-ghost use Rattle.pgr_answer.specs.Allowed.{IsAllowed};
+ghost use Rattle.pgr_answer.specs.declared.tables.Tables.{Tables as SomeTables};
+ghost use Rattle.pgr_answer.specs.Allowed.{IsAllowed, AnswersCommand};
 ghost use Rattle.pgr_answer.specs.Costs.{IsLeastCost};
+ghost use Rattle.pgr_answer.specs.Files.{File, Content, files_of, AreAccepted};
 ghost use Rattle.pgr_answer.specs.Paths.{IsLeastBetween};
-ghost use Rattle.pgr_answer.specs.Tables.{Tables, AreTables};
 
-/// One table at most is allowed for a command over the tables that it asks about, and told contents are one list of
-/// tables at most: so what is written is a function of the words and the files.
+/// One table at most is allowed for a command over the tables that it asks about; and where the contents of all its files
+/// are known, they are one list of contents at most, and one table at most answers the command.
 ///
-/// A law; the call does nothing.
+/// So what is written is a function of the words and the files. A law; the call does nothing.
 pub fn one_table_is_allowed()
-    ensures rows { (command : Command) (tables : Tables) (rows other : Rows)
+    ensures rows { (command : Command) (tables : SomeTables) (rows other : Rows)
         → IsAllowed command tables rows
         → IsAllowed command tables other
         → rows ≡ other }
-    ensures tables { (content : List ℕ → Option (List ℕ)) (command : Command) (tables other : Tables)
-        → AreTables content command tables
-        → AreTables content command other
-        → tables ≡ other }
+    ensures contents { (known : List ℕ → Option (List ℕ)) (files : List File) (contents others : List Content)
+        → All (λ file. IsSome (known file.name)) files
+        → AreAccepted known files contents
+        → AreAccepted known files others
+        → contents ≡ others }
+    ensures answers { (command : Command) (known : List ℕ → Option (List ℕ)) (rows other : Rows)
+        → All (λ file. IsSome (known file.name)) (files_of command)
+        → AnswersCommand command known rows
+        → AnswersCommand command known other
+        → rows ≡ other }
 {}
 
 /// The walk that is least between two vertices has the least cost between them.

@@ -26,6 +26,7 @@ mod path_rows;
 mod reading;
 mod refused;
 mod role;
+mod tables;
 #[cfg(test)]
 mod tests;
 

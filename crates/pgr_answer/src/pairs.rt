@@ -1,8 +1,7 @@
 ghost use Rattle.std.specs.Prelude.{◌≡◌, ◌↔◌, ℤ, Contains, IfOk, OnOk, IsTrue};
 ghost use Rattle.pgr_numbers.specs.Names.{AreEnds};
-ghost use Rattle.pgr_answer.specs.Pairs.{IsAsked, IsAnswered};
-ghost use Rattle.pgr_answer.specs.Found.{rows_or_none};
-ghost use Rattle.pgr_answer.specs.Gathering.{Gathers, IsAnswerable, IsPairOfLists, IsPairFrom, IsPairOfRows, IsThisPair};
+ghost use Rattle.pgr_answer.specs.Pairs.{IsAsked, IsAnswerable};
+ghost use Rattle.pgr_answer.specs.Gathering.{Gathers, IsAnswerableAmong, IsPairOfLists, IsPairFrom, IsPairOfRows, IsThisPair};
 
 use crate::network::Network;
 use pgr_numbers::Names;
@@ -19,17 +18,15 @@ pub(crate) fn answered_pairs<G>(
     network: &Network<G>,
     starts: &[i64],
     ends: &[i64],
-    combinations: &Option<PairTable>,
+    combinations: &PairTable,
 ) -> Result<BTreeSet<(i64, i64)>, NoMemory>
     requires { AreEnds network.now.links.items network.now.names }
     ensures { IfOk result (λ pairs. (start end : ℤ) → Contains pairs.keys (end, start)
-        ↔ (IsAsked starts.now ends.now (rows_or_none combinations.now) start end × IsAnswered (Contains network.now.links.items) start end)) }
+        ↔ (IsAsked starts.now ends.now combinations.now start end × IsAnswerable (Contains network.now.links.items) start end)) }
 {
     let mut pairs = BTreeSet::new(alloc);
     insert_lists(&mut pairs, &network.names, starts, ends)?;
-    if let Some(table) = combinations {
-        insert_combinations(&mut pairs, &network.names, table)?;
-    }
+    insert_combinations(&mut pairs, &network.names, combinations)?;
     Ok(pairs)
 }
 
@@ -98,7 +95,7 @@ fn insert_answered(
 
 // Whether the pair can be answered among the names.
 fn is_answerable(names: &Names, start: i64, end: i64) -> bool
-    ensures { IsTrue result ↔ IsAnswerable names.now start end }
+    ensures { IsTrue result ↔ IsAnswerableAmong names.now start end }
 {
     start != end && names.number(start).is_some() && names.number(end).is_some()
 }
@@ -133,7 +130,6 @@ mod tests {
             graph: (),
         };
         let rows = read_combinations(rt.alloc(), b"source,target\n30,10\n10,20\n20,40\n20,20\n")?;
-        let rows = Some(rows);
         let pairs = answered_pairs(rt.alloc(), &network, &[20, 40, 10, 20], &[20, 30], &rows)?;
         let pairs: Vec<(i64, i64)> = pairs.iter().copied().collect(rt.alloc())?;
         let expected = [(10, 30), (20, 10), (30, 10), (30, 20)];
@@ -151,7 +147,13 @@ mod tests {
             names,
             graph: (),
         };
-        let pairs = answered_pairs(rt.alloc(), &network, &[10], &[], &None)?;
+        let pairs = answered_pairs(
+            rt.alloc(),
+            &network,
+            &[10],
+            &[],
+            &PairTable::empty(rt.alloc()),
+        )?;
         assert!(rt; pairs.is_empty());
         Ok(())
     }

@@ -1,75 +1,64 @@
-ghost use Rattle.std.specs.Prelude.{◌≡◌, Ok, None, IfOk, IfErr, IfSome};
+ghost use Rattle.std.specs.Prelude.{◌≡◌, IfOk, OnOk, IfErr};
 ghost use Rattle.pgr_outside.specs.Faults.{NoneFell};
-ghost use Rattle.pgr_table.specs.Edges.{judged_edges};
-ghost use Rattle.pgr_table.specs.Pairs.{judged_pairs};
-ghost use Rattle.pgr_answer.specs.Refusals.{IsRefused, from_read, from_table};
-ghost use Rattle.pgr_answer.specs.Files.{refusal_of};
-ghost use Rattle.pgr_answer.specs.Reading.{AreCombinations, AreCombinationsRefused};
-ghost use Rattle.pgr_answer.specs.declared.role.Role.TheVariants as role;
+ghost use Rattle.pgr_answer.specs.Files.{files_with, files_of};
+ghost use Rattle.pgr_answer.specs.Reading.{AreRead};
+ghost use Rattle.pgr_answer.specs.Refusals.{HoldsAmong, from_read, from_table};
+ghost use Rattle.pgr_answer.specs.Tables.{no_tables};
 
 use crate::refused::Refused;
-use crate::role::Role;
-use pgr_outside::{ReadRefused, Store, Text, read_file};
-use pgr_table::{EdgeTable, PairTable, TableRefused, read_combinations, read_edges};
+use crate::role::{Role, roles};
+use crate::tables::Tables;
+use pgr_outside::{ReadRefused, Store, read_file};
+use pgr_table::TableRefused;
+use pgr_words::Command;
 use std::alloc::Global;
 
 /// The greatest number of bytes of a file.
 const MOST_BYTES: u64 = 268_435_456;
 
-/// The table of edges that a file is, or why it is none.
-pub(crate) fn edges_in<S: Store>(
+/// The tables that the files of a command are, or the refusal of the first file that is none.
+///
+/// Each file is read and judged before the next is read.
+pub(crate) fn read_tables<S: Store>(
     alloc: Global,
-    name: &str,
+    command: &Command,
     store: &mut S,
-) -> Result<EdgeTable, Refused>
-    ensures table { IfOk result (λ rows. IfSome (S.content store.old name.now)
-        (λ bytes. (refusal_of role.Edges bytes ≡ None) × (judged_edges bytes ≡ Ok rows))) }
-    ensures refused { IfErr result (IsRefused (S.content store.old) (S.faults store.old) (S.faults store.new) (record { role = role.Edges; name = name.now })) }
+) -> Result<Tables, Refused>
+    ensures tables { IfOk result (AreRead (S.content store.old) (files_of command.now) no_tables) }
+    ensures refused { IfErr result (HoldsAmong (S.content store.old) (S.faults store.old) (S.faults store.new) (files_of command.now)) }
     ensures content { S.content store.new ≡ S.content store.old }
     ensures faults { NoneFell (S.faults store.old) (S.faults store.new) }
 {
-    let bytes = read_file(alloc, store, name, MOST_BYTES).map_err(|refused| refused_read(
-        Role::Edges,
-        refused,
-    ))?;
-    read_edges(alloc, bytes.as_slice(), false).map_err(|refused| refused_table(
-        Role::Edges,
-        refused,
-    ))
+    let mut tables = Tables::empty(alloc);
+    for role in roles() {
+        read_role(alloc, command, *role, store, &mut tables)?;
+    }
+    Ok(tables)
 }
 
-/// The table of combinations that a file is, or why it is none.
-fn combinations_in<S: Store>(alloc: Global, name: &str, store: &mut S) -> Result<PairTable, Refused>
-    ensures table { IfOk result (λ rows. IfSome (S.content store.old name.now)
-        (λ bytes. (refusal_of role.Combinations bytes ≡ None) × (judged_pairs bytes ≡ Ok rows))) }
-    ensures refused { IfErr result (IsRefused (S.content store.old) (S.faults store.old) (S.faults store.new) (record { role = role.Combinations; name = name.now })) }
-    ensures content { S.content store.new ≡ S.content store.old }
-    ensures faults { NoneFell (S.faults store.old) (S.faults store.new) }
-{
-    let bytes = read_file(alloc, store, name, MOST_BYTES).map_err(|refused| refused_read(
-        Role::Combinations,
-        refused,
-    ))?;
-    read_combinations(alloc, bytes.as_slice()).map_err(|refused| refused_table(
-        Role::Combinations,
-        refused,
-    ))
-}
-
-/// The table of combinations that a file is, if one is named, or why it is none.
-pub(crate) fn combinations_of<S: Store>(
+/// Reads the file that has this role to a command, if there is one, as the table of the role.
+fn read_role<S: Store>(
     alloc: Global,
-    name: &Option<Text>,
+    command: &Command,
+    role: Role,
     store: &mut S,
-) -> Result<Option<PairTable>, Refused>
-    ensures table { IfOk result (AreCombinations (S.content store.old) name.now) }
-    ensures refused { IfErr result (AreCombinationsRefused (S.content store.old) (S.faults store.old) (S.faults store.new) name.now) }
+    tables: &mut Tables,
+) -> Result<(), Refused>
+    ensures tables { OnOk result (AreRead (S.content store.old) (files_with command.now role) tables.old tables.new) }
+    ensures refused { IfErr result (HoldsAmong (S.content store.old) (S.faults store.old) (S.faults store.new) (files_with command.now role)) }
     ensures content { S.content store.new ≡ S.content store.old }
     ensures faults { NoneFell (S.faults store.old) (S.faults store.new) }
 {
-    match name {
-        None => Ok(None),
-        Some(name) => Ok(Some(combinations_in(alloc, name.as_str(), store)?)),
+    let Some(name) = role.file_name(command) else {
+        return Ok(());
+    };
+    let bytes = match read_file(alloc, store, name, MOST_BYTES) {
+        Ok(bytes) => bytes,
+        Err(refused) => return Err(refused_read(role, refused)),
+    };
+    match tables.read(alloc, role, bytes.as_slice()) {
+        Ok(()) => Ok(()),
+        Err(refused) => Err(refused_table(role, refused)),
     }
 }
 

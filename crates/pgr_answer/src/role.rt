@@ -1,6 +1,7 @@
-ghost use Rattle.std.specs.Prelude.{◌≡◌};
-ghost use Rattle.pgr_answer.specs.Roles.{name_of};
+ghost use Rattle.std.specs.Prelude.{◌≡◌, option_map};
+ghost use Rattle.pgr_answer.specs.Roles.{roles as the_roles, name_of, file_name_of};
 
+use pgr_words::Command;
 use std::fmt;
 
 /// What a file is to a command.
@@ -12,6 +13,15 @@ pub enum Role {
     Combinations,
 }
 
+const ROLES: [Role; 2] = [Role::Edges, Role::Combinations];
+
+/// The roles, in the order in which their files are read.
+pub(crate) fn roles() -> &'static [Role]
+    ensures { result.now ≡ the_roles }
+{
+    &ROLES
+}
+
 impl Role {
     /// What the role is called: as the option that names its file.
     pub fn name(self) -> &'static str
@@ -20,6 +30,19 @@ impl Role {
         match self {
             Role::Edges => "edges",
             Role::Combinations => "combinations",
+        }
+    }
+
+    /// The name of the file that has this role to a command, if the command names one.
+    pub(crate) fn file_name(self, command: &Command) -> Option<&str>
+        ensures { option_map (λ name. name.now) result ≡ file_name_of command.now self }
+    {
+        match self {
+            Role::Edges => Some(command.edges.as_str()),
+            Role::Combinations => match &command.combinations {
+                Some(name) => Some(name.as_str()),
+                None => None,
+            },
         }
     }
 }

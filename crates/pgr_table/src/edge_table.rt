@@ -104,6 +104,15 @@ pub fn read_edges(alloc: Global, bytes: &[u8], places: bool) -> Result<EdgeTable
 impl EdgeTable {
     ghost use Rattle.pgr_table.specs.Edges.{AreAccepted};
 
+    /// A table without rows.
+    pub fn empty(alloc: Global) -> EdgeTable
+        ensures { result ≡ [] }
+    {
+        EdgeTable {
+            rows: IndexMap::new(alloc),
+        }
+    }
+
     /// The number of rows.
     ///
     /// From this call a caller also learns what holds of the rows of every table.

@@ -65,6 +65,15 @@ pub fn read_combinations(alloc: Global, bytes: &[u8]) -> Result<PairTable, Table
 }
 
 impl PairTable {
+    /// A table without rows.
+    pub fn empty(alloc: Global) -> PairTable
+        ensures { result ≡ [] }
+    {
+        PairTable {
+            rows: Vec::new(alloc),
+        }
+    }
+
     /// The number of rows, at most 4,194,304.
     pub fn len(&self) -> usize
         ensures len { result ≡ length self.now }

@@ -2,8 +2,8 @@ use Rattle.std.proofs.Common.{◌∙◌}
 use Rattle.pgr_answer.proofs.TablesFound.{pairs_answered, path_table_found, routes_numbered, routes_some}
 use Rattle.pgr_answer.proofs.dijkstra.dijkstra_rows.Goals as goal
 
-pub found_for-requires-clause-answered : goal.found_for-requires-clause-answered
-found_for-requires-clause-answered c = pairs_answered _ _ _ c.in_ok-pairs.ensures
+pub found_for-requires-clause-answerable : goal.found_for-requires-clause-answerable
+found_for-requires-clause-answerable c = pairs_answered _ _ _ c.in_ok-pairs.ensures
 
 pub rows_of_routes-requires-clause-numbered : goal.rows_of_routes-requires-clause-numbered
 rows_of_routes-requires-clause-numbered c = routes_numbered _ _ _ _ _ c.in_ok-routes.ensures

@@ -1,0 +1,11 @@
+-- The rows that were read are put in their place.
+use Rattle.std.proofs.Common.{refl}
+use Rattle.pgr_answer.proofs.tables.Tables.read.Goals as goal
+
+pub returns-in_ok-self-in-Edges : goal.returns-in_ok-self-in-Edges
+returns-in_ok-self-in-Edges c =
+    (λ tables. record tables { edges = c.in_ok-self-in-Edges.field-0 }, rw (c.in-Edges.is, c.in_ok-self-in-Edges.ensures) refl, refl)
+
+pub returns-in_ok-self-in-Combinations : goal.returns-in_ok-self-in-Combinations
+returns-in_ok-self-in-Combinations c =
+    (λ tables. record tables { combinations = c.in_ok-self-in-Combinations.field-0 }, rw (c.in-Combinations.is, c.in_ok-self-in-Combinations.ensures) refl, refl)
