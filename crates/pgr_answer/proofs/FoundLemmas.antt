@@ -1,128 +1,160 @@
--- What is found for pairs of vertices, as a map by start and end: it grows by a pair at a time, and has the answers at the end.
-use Rattle.std.proofs.Common.{◌≡◌, ℕ, ℤ, ◌<◌, ◌⊎◌, inl, inr, ⊎_elim, Bool, true, false, cond, List, [], ◌∷◌, ◌++◌, length, refl, sym, ap, subst, ◌∙◌, arith, Option, None, Some, MatchOption, Bor}
-use Rattle.std.specs.Prelude.{All, Any, Contains, IfSome, IfNone}
-use Rattle.std.specs.Ordering.{int_cmp}
-use Rattle.std.specs.Cmp.{IsTotalOrder}
-use Rattle.std.specs.Iterator.{Yields}
-use Rattle.std.specs.Map.{keys_of, lookup}
-use Rattle.std.specs.Map.Iter.{TakesFirst, deref}
-use Rattle.std.specs.BTreeMap.{BTreeMap, IsOrdered, IsUnchanged, Updates, get, is_at}
-use Rattle.std.proofs.lemmas.Cmp.{int_cmp_total, on_total, then_total}
-use Rattle.std.proofs.lemmas.List.{get_or-map, length-map}
-use Rattle.std.proofs.lemmas.List.Elements.{All-weaker, All-map, All-contains_itself, Contains-push_cases, Contains-append_left, Contains-push}
-use Rattle.std.proofs.lemmas.Map.Keys.{Less-from_sorted}
-use Rattle.std.proofs.lemmas.Map.Lookups.{CmpEqualImpliesEq, exact_pairs, exact_signed}
-use Rattle.std.proofs.lemmas.Map.Views.{btree_map_get_iff, tells_apart, All-turn}
+-- What is found for pairs of numbers grows by a pair at a time, and once sorted it rises by start and then by end.
+use Rattle.std.proofs.Common.{◌≡◌, ◌≢◌, ℕ, zero, suc, ℤ, ◌+◌, ◌-◌, ◌<◌, ◌≤◌, ◌⊎◌, inl, inr, ⊎_elim, Bool, true, false, List, [], ◌∷◌, ◌++◌, length, get_or, take, drop, refl, sym, ap, subst, ◌∙◌, arith, append_assoc, append-nil, Ordering, Less, Equal, Greater}
+use Rattle.std.specs.Prelude.{All, Any, Contains}
+use Rattle.std.specs.List.{AllPairs, IsDistinct}
+use Rattle.std.specs.List.Sorted.{IsSorted, IsPermutation}
+use Rattle.std.specs.Ordering.{nat_cmp, eq_by_cmp, ordering_then, is_eq, is_lt, ordering_reverse}
+use Rattle.std.specs.Cmp.{IsTotalOrder, Equal-is}
+use Rattle.std.proofs.lemmas.Bool.{cases_Bool}
+use Rattle.std.proofs.lemmas.Cmp.{nat_cmp_total, on_total, then_total, eq_by_cmp_equiv}
+use Rattle.std.proofs.lemmas.List.{take_more, take_all, length-append, get_or_append_left, get_or-append_right}
+use Rattle.std.proofs.lemmas.List.Elements.{All-nil, All-push, All-weaker, Contains-append_left, Contains-push, Contains-push_cases}
+use Rattle.std.proofs.lemmas.List.Quantifiers.{all_pairs_push}
+use Rattle.std.proofs.lemmas.List.Sorted.{All-permutation, Contains-permutation, sorted_far, ranks_by}
+use Rattle.std.proofs.lemmas.Map.Keys.{IsDistinct-from_apart, IsDistinct-IsPermutation, apart_from_distinct}
 use Rattle.pgr_outside.specs.Lists.{IsStrictlyRising}
 use Rattle.pgr_walks.specs.declared.link.LinkOf.{LinkOf}
 use Rattle.pgr_walks.specs.Walk.{IsWalk}
-use Rattle.pgr_answer.specs.Pairs.{IsAnswerable}
-use Rattle.pgr_answer.specs.Answers.{Answer, AreAnswers, answer_cmp}
-use Rattle.pgr_answer.specs.Found.{answer_of, answers_of}
-use Rattle.pgr_answer.specs.Finding.{pair_cmp, IsAdded}
+use Rattle.pgr_numbers.specs.Names.{id_at}
+use Rattle.pgr_answer.specs.declared.pair.Pair.{Pair}
+use Rattle.pgr_answer.specs.declared.found.Found.{Found}
+use Rattle.pgr_answer.specs.Gathering.{pair_cmp}
+use Rattle.pgr_answer.specs.Finding.{HaveEnd, pair_of, found_cmp, AreFound, RisesByPair, Extends}
+use Rattle.pgr_answer.proofs.PairLemmas.{pair_tie, pair_total, same_pair}
 
--- the order of pairs is total
-pub pair_total : IsTotalOrder pair_cmp
-pair_total = then_total (on_total (λ (p : ℤ × ℤ). p.0) int_cmp_total) (on_total (λ (p : ℤ × ℤ). p.1) int_cmp_total)
+-- what rises, rises in its front
+pub rises_front : {X : Type 0} (cmp : X → X → Ordering) (xs ys : List X) → IsStrictlyRising cmp (xs ++ ys) → IsStrictlyRising cmp xs
+rises_front cmp xs ys rise i j d before inside =
+    ap (λ a. cmp a (get_or xs j d)) (sym (get_or_append_left xs ys d i (omega arith)))
+    ∙ ap (cmp (get_or (xs ++ ys) i d)) (sym (get_or_append_left xs ys d j inside))
+    ∙ rise i j d before (omega (arith, length-append xs ys))
 
--- only a pair itself is equal to it
-pub pair_exact : CmpEqualImpliesEq pair_cmp
-pair_exact = exact_pairs int_cmp int_cmp exact_signed exact_signed
+-- in a list that rises, what is in front comes before the last
+before_last : {X : Type 0} (cmp : X → X → Ordering) (xs : List X) (y x : X) → IsStrictlyRising cmp (xs ++ y ∷ []) → Contains xs x → cmp x y ≡ Less
+before_last cmp xs y x rise (k, within, is) =
+    let front : get_or (xs ++ y ∷ []) k x ≡ x = get_or_append_left xs (y ∷ []) x k within ∙ is in
+    let none : length xs - length xs ≡ 0 = omega arith in
+    let last : get_or (xs ++ y ∷ []) (length xs) x ≡ y = get_or-append_right xs (y ∷ []) (length xs) (length xs) x refl (omega arith) ∙ ap (λ n. get_or (y ∷ []) n x) none in
+    ap (λ a. cmp a y) (sym front) ∙ ap (cmp (get_or (xs ++ y ∷ []) k x)) (sym last) ∙ rise k (length xs) x within (omega (arith, length-append xs (y ∷ [])))
 
--- what a map has for the pairs that are done, each of them its end and its start: what it has is for a pair that is done and is shown of it, and it has something for each that has a walk
-pub record AreFound {Shown : Type 0} (Has : LinkOf ℤ → Type 0) (Shows : ℤ → ℤ → Shown → Type 0) (done : List (ℤ × ℤ)) (found : BTreeMap (ℤ × ℤ) Shown) : Type 0 where
-  pub ordered : IsOrdered pair_cmp found
-  pub asked : (start end : ℤ) (shown : Shown) → get pair_cmp found (start, end) ≡ Some shown → Contains done (end, start)
-  pub shows : (start end : ℤ) (shown : Shown) → get pair_cmp found (start, end) ≡ Some shown → Shows start end shown
-  pub every : (start end : ℤ) (walk : List (LinkOf ℤ)) → Contains done (end, start) → IsWalk Has start walk end → (shown : Shown) × (get pair_cmp found (start, end) ≡ Some shown)
+-- some element of a list is some element of it with one more
+Any-push_left : {X : Type 0} (P : X → Type 0) (xs : List X) (y : X) → Any P xs → Any P (xs ++ y ∷ [])
+Any-push_left P xs y h = let k = Contains-append_left xs (y ∷ []) h.1 (h.0, h.2, h.3) in (k.0, h.1, k.1, k.2, h.4)
 
-module _ {Shown : Type 0} (Has : LinkOf ℤ → Type 0) (Shows : ℤ → ℤ → Shown → Type 0) where
-  module _ (start end : ℤ) (old new : BTreeMap (ℤ × ℤ) Shown) where
-    -- what is under a key of the new map is what was kept, under its key, or was there
-    at_key : (kept : Option Shown) → IfSome kept (Shows start end) → MatchOption kept (IsUnchanged old new) (λ shown. Updates pair_cmp old new (start, end) (Some shown))
-        → (q : ℤ × ℤ) (shown : Shown) → get pair_cmp new q ≡ Some shown → (((start, end) ≡ q) × Shows start end shown) ⊎ (get pair_cmp old q ≡ Some shown)
-    at_key None shows same q shown is = inr (ap (lookup (is_at (pair_cmp q))) (sym same) ∙ is)
-    at_key (Some kept) shows updates q shown is = split (is_at (pair_cmp (start, end)) q) refl (sym (updates.0 q) ∙ is) where
-      split : (here : Bool) → is_at (pair_cmp (start, end)) q ≡ here → cond here (Some kept) (get pair_cmp old q) ≡ Some shown → (((start, end) ≡ q) × Shows start end shown) ⊎ (get pair_cmp old q ≡ Some shown)
-      split true here e = let same : kept ≡ shown = cc in inl (tells_apart pair_exact (start, end) q here, subst (Shows start end) same shows)
-      split false here e = inr e
+Any-push_right : {X : Type 0} (P : X → Type 0) (xs : List X) (y : X) → P y → Any P (xs ++ y ∷ [])
+Any-push_right P xs y p = let k = Contains-push xs y in (k.0, y, k.1, k.2, p)
 
-    -- a key of the old map is one of the new
-    stays : (kept : Option Shown) → MatchOption kept (IsUnchanged old new) (λ shown. Updates pair_cmp old new (start, end) (Some shown))
-        → (q : ℤ × ℤ) (was : Shown) → get pair_cmp old q ≡ Some was → (shown : Shown) × (get pair_cmp new q ≡ Some shown)
-    stays None same q was is = (was, ap (lookup (is_at (pair_cmp q))) same ∙ is)
-    stays (Some kept) updates q was is = split (is_at (pair_cmp (start, end)) q) (updates.0 q) where
-      split : (here : Bool) → get pair_cmp new q ≡ cond here (Some kept) (get pair_cmp old q) → (shown : Shown) × (get pair_cmp new q ≡ Some shown)
-      split true e = (kept, e)
-      split false e = (was, e ∙ is)
+module _ {Shown : Type 0} (Has : LinkOf ℤ → Type 0) (Shows : ℤ → ℤ → Shown → Type 0) (names : List ℤ) where
+  -- what is found for pairs, where one more is done
+  weaker : (done : List Pair) (pair : Pair) (found : List (Found Shown)) → All (λ f. Contains done (pair_of f)) found → All (λ f. Contains (done ++ pair ∷ []) (pair_of f)) found
+  weaker done pair found asked = All-weaker (λ f. Contains done (pair_of f)) (λ f. Contains (done ++ pair ∷ []) (pair_of f)) (λ f there. Contains-append_left done (pair ∷ []) (pair_of f) there) found asked
 
-    -- the pair is a key of the new map where it has a walk
-    is_kept : (kept : Option Shown) → IfNone kept ((walk : List (LinkOf ℤ)) → IsWalk Has start walk end → ⊥) → MatchOption kept (IsUnchanged old new) (λ shown. Updates pair_cmp old new (start, end) (Some shown))
-        → (walk : List (LinkOf ℤ)) → IsWalk Has start walk end → (shown : Shown) × (get pair_cmp new (start, end) ≡ Some shown)
-    is_kept None none same walk is_walk = absurd (none walk is_walk)
-    is_kept (Some kept) none updates walk is_walk = (kept, updates.1)
+  -- something is found for one more pair
+  pub extends_some : (start end : ℕ) (kept : Shown) (old new : List (Found Shown)) → Shows (id_at names start) (id_at names end) kept → new ≡ old ++ record { start = start; end = end; kept = kept } ∷ []
+      → Extends Has Shows names (record { end = end; start = start } ∷ []) old new
+  extends_some start end kept old new shows new_is done rise (are, by_pair) =
+      let pair : Pair = record { end = end; start = start } in
+      let this : Found Shown = record { start = start; end = end; kept = kept } in
+      let found : AreFound Has Shows names (done ++ pair ∷ []) (old ++ this ∷ []) = record {
+        asked = All-push (λ f. Contains (done ++ pair ∷ []) (pair_of f)) old this (weaker done pair old are.asked) (Contains-push done pair);
+        shows = All-push (λ f. Shows (id_at names f.start) (id_at names f.end) f.kept) old this are.shows shows;
+        every = λ other walk there is_walk. ⊎_elim
+            (λ before. Any-push_left (λ f. pair_of f ≡ other) old this (are.every other walk before is_walk))
+            (λ same. Any-push_right (λ f. pair_of f ≡ other) old this same)
+            (Contains-push_cases done pair other there);
+      } in
+      let rises : RisesByPair (old ++ this ∷ []) = all_pairs_push (λ f g. pair_cmp (pair_of f) (pair_of g) ≡ Less) old this by_pair (λ k d below. before_last pair_cmp done pair (pair_of (get_or old k d)) rise (are.asked k d below)) in
+      subst (λ found. AreFound Has Shows names (done ++ pair ∷ []) found × RisesByPair found) (sym new_is) (found, rises)
 
-    -- with what is kept of one more pair, a map has what is found for it too
-    pub found_more : (done : List (ℤ × ℤ)) → AreFound Has Shows done old → IsAdded Has Shows start end old new → IsOrdered pair_cmp new → AreFound Has Shows (done ++ (end, start) ∷ []) new
-    found_more done found added ordered =
-        let now = at_key added.kept added.shows added.updates in
-        record {
-          ordered = ordered;
-          asked = λ s e shown is.
-              ⊎_elim
-              (λ here. let P : ℤ × ℤ → Type 0 = λ q. Contains (done ++ (end, start) ∷ []) (q.1, q.0) in subst P here.0 (Contains-push done (end, start)))
-              (λ was. Contains-append_left done ((end, start) ∷ []) (e, s) (found.asked s e shown was))
-              (now (s, e) shown is);
-          shows = λ s e shown is.
-              ⊎_elim
-              (λ here. let P : ℤ × ℤ → Type 0 = λ q. Shows q.0 q.1 shown in subst P here.0 here.1)
-              (found.shows s e shown)
-              (now (s, e) shown is);
-          every = λ s e walk there is_walk.
-              ⊎_elim
-              (λ before. let was = found.every s e walk before is_walk in stays added.kept added.updates (s, e) was.0 was.1)
-              (λ same. let P : ℤ × ℤ → Type 0 = λ p. IsWalk Has p.1 walk p.0 → (shown : Shown) × (get pair_cmp new (p.1, p.0) ≡ Some shown) in subst P same (is_kept added.kept added.none added.updates walk) is_walk)
-              (Contains-push_cases done (end, start) (e, s) there);
-        }
+  -- nothing is found for one more pair, which has no walk
+  pub extends_none : (pair : Pair) (found : List (Found Shown)) → ((walk : List (LinkOf ℤ)) → IsWalk Has (id_at names pair.start) walk (id_at names pair.end) → ⊥) → Extends Has Shows names (pair ∷ []) found found
+  extends_none pair found none done rise (are, by_pair) = (
+    record {
+      asked = weaker done pair found are.asked;
+      shows = are.shows;
+      every = λ other walk there is_walk. ⊎_elim
+          (λ before. are.every other walk before is_walk)
+          (λ same. absurd (none walk (subst (λ (p : Pair). IsWalk Has (id_at names p.start) walk (id_at names p.end)) (sym same) is_walk)))
+          (Contains-push_cases done pair other there);
+    },
+    by_pair,
+  )
 
-  -- an entry of an ordered map is what the map has under its key
-  entry_found : (found : BTreeMap (ℤ × ℤ) Shown) → IsOrdered pair_cmp found → (e : (ℤ × ℤ) × Shown) → Contains found.entries e → get pair_cmp found (e.0.0, e.0.1) ≡ Some e.1
-  entry_found found ordered e there = (btree_map_get_iff pair_total pair_exact found ordered e.0 e.1).1 there
+  -- no more pairs
+  pub extends_nothing : (found : List (Found Shown)) → Extends Has Shows names [] found found
+  extends_nothing found done rise base = subst (λ pairs. AreFound Has Shows names pairs found × RisesByPair found) (sym (append-nil done)) base
 
-  -- what is found for pairs that are answerable are the answers to them
-  pub found_all : (pairs : List (ℤ × ℤ)) (found : BTreeMap (ℤ × ℤ) Shown) → AreFound Has Shows pairs found → ((start end : ℤ) → Contains pairs (end, start) → IsAnswerable Has start end)
-      → AreAnswers Has (λ start end. Contains pairs (end, start)) Shows (answers_of found.entries)
-  found_all pairs found are_found answerable = record {
-    asked = each (λ a. Contains pairs (a.end, a.start)) are_found.asked;
-    answerable = each (λ a. IsAnswerable Has a.start a.end) (λ start end shown is. answerable start end (are_found.asked start end shown is));
-    shows = each (λ a. Shows a.start a.end a.shown) are_found.shows;
-    every = λ start end walk there is_answered is_walk. let is = are_found.every start end walk there is_walk in some start end is.0 is.1;
-    rise = rises;
+  -- more pairs, and then others
+  pub extends_both : (more others : List Pair) (old middle new : List (Found Shown)) → Extends Has Shows names more old middle → Extends Has Shows names others middle new → Extends Has Shows names (more ++ others) old new
+  extends_both more others old middle new first second done rise base =
+      let order = append_assoc done more others in
+      let rises : IsStrictlyRising pair_cmp ((done ++ more) ++ others) = subst (IsStrictlyRising pair_cmp) (sym order) rise in
+      subst (λ pairs. AreFound Has Shows names pairs new × RisesByPair new) order (second (done ++ more) rises (first done (rises_front pair_cmp (done ++ more) others rises) base))
+
+  -- one pair more of a group
+  pub extends_more : (group : List Pair) (i : ℕ) (d pair : Pair) (old middle new : List (Found Shown)) → i < length group → pair ≡ get_or group i d
+      → Extends Has Shows names (take i group) old middle → Extends Has Shows names (pair ∷ []) middle new → Extends Has Shows names (take (i + 1) group) old new
+  extends_more group i d pair old middle new inside is first second =
+      let longer = take_more group i d inside ∙ ap (λ p. take i group ++ p ∷ []) (sym is) in
+      subst (λ pairs. Extends Has Shows names pairs old new) (sym longer) (extends_both (take i group) (pair ∷ []) old middle new first second)
+
+  -- nothing is found for no pairs
+  pub none_found : AreFound Has Shows names [] []
+  none_found = record { asked = All-nil (λ f. Contains [] (pair_of f)); shows = All-nil (λ f. Shows (id_at names f.start) (id_at names f.end) f.kept); every = λ pair walk there is_walk. absurd (omega (arith, there.1)) }
+
+  -- what is found, in another order
+  pub found_moved : (pairs : List Pair) (found sorted : List (Found Shown)) → IsPermutation found sorted → AreFound Has Shows names pairs found → AreFound Has Shows names pairs sorted
+  found_moved pairs found sorted moved are = record {
+    asked = All-permutation (λ f. Contains pairs (pair_of f)) found sorted moved are.asked;
+    shows = All-permutation (λ f. Shows (id_at names f.start) (id_at names f.end) f.kept) found sorted moved are.shows;
+    every = λ pair walk there is_walk. any_moved (λ f. pair_of f ≡ pair) (are.every pair walk there is_walk);
   } where
-    -- what holds of what the map has under a pair holds of each answer
-    each : (P : Answer Shown → Type 0) → ((start end : ℤ) (shown : Shown) → get pair_cmp found (start, end) ≡ Some shown → P (record { start = start; end = end; shown = shown })) → All P (answers_of found.entries)
-    each P holds = All-map P answer_of found.entries (All-weaker (Contains found.entries) (λ e. P (answer_of e)) (λ e there. holds e.0.0 e.0.1 e.1 (entry_found found are_found.ordered e there)) found.entries (All-contains_itself found.entries))
+    any_moved : (P : Found Shown → Type 0) → Any P found → Any P sorted
+    any_moved P h = let k = Contains-permutation found sorted h.1 moved (h.0, h.2, h.3) in (k.0, h.1, k.1, k.2, h.4)
 
-    -- a pair under which the map has something has an answer
-    some : (start end : ℤ) (shown : Shown) → get pair_cmp found (start, end) ≡ Some shown → Any (λ answer. (answer.start ≡ start) × (answer.end ≡ end)) (answers_of found.entries)
-    some start end shown is =
-        let there = (btree_map_get_iff pair_total pair_exact found are_found.ordered (start, end) shown).0 is in
-        let answer : Answer Shown = record { start = start; end = end; shown = shown } in
-        (there.0, answer, rw length-map there.1, get_or-map answer_of found.entries there.0 ((start, end), shown) answer there.1 ∙ ap answer_of there.2, (refl, refl))
+-- of what is not equal, and what follows of which is not less, the first is less
+less_by_rest : (o p : Ordering) → o ≡ ordering_reverse p → is_eq o ≡ false → is_lt p ≡ false → o ≡ Less
+less_by_rest Less p e differ later = refl
+less_by_rest Equal p e differ later = cc
+less_by_rest Greater Less e differ later = cc
+less_by_rest Greater Equal e differ later = cc
+less_by_rest Greater Greater e differ later = cc
 
-    -- the answers rise as the pairs of the map do
-    rises : IsStrictlyRising answer_cmp (answers_of found.entries)
-    rises i j x before within =
-        let inside : j < length found.entries = rw length-map at within in
-        let d : (ℤ × ℤ) × Shown = ((x.start, x.end), x.shown) in
-        let in_order = Less-from_sorted pair_cmp (keys_of found.entries) i j d.0 are_found.ordered before (rw length-map inside) in
-        let read = λ (k : ℕ) (h : k < length found.entries). get_or-map answer_of found.entries k d x h in
-        let key = λ (k : ℕ) (h : k < length found.entries). get_or-map (λ (e : (ℤ × ℤ) × Shown). e.0) found.entries k d d.0 h in
-        rw (read i (omega arith), read j inside) (rw (key i (omega arith), key j inside) at in_order)
+module _ {Shown : Type 0} where
+  -- the order of what is found is total
+  pub found_total : IsTotalOrder (found_cmp {Shown = Shown})
+  found_total = then_total (on_total (λ (f : Found Shown). f.start) nat_cmp_total) (on_total (λ (f : Found Shown). f.end) nat_cmp_total)
 
--- a pair that a loop over answerable pairs comes to is answerable
-pub answered_turn : (Has : LinkOf ℤ → Type 0) (pairs : List (ℤ × ℤ)) → ((start end : ℤ) → Contains pairs (end, start) → IsAnswerable Has start end)
-    → (done : List (Bor (ℤ × ℤ))) (all rest left : List (ℤ × ℤ)) (next : Option (Bor (ℤ × ℤ))) (pair : Bor (ℤ × ℤ))
-    → all ≡ pairs → Yields (TakesFirst deref) all done rest → next ≡ Some pair → TakesFirst deref rest next left → IsAnswerable Has pair.now.1 pair.now.0
-answered_turn Has pairs answerable done all rest left next pair starts yields is takes =
-    answerable pair.now.1 pair.now.0 (All-turn deref (Contains pairs) pairs done all rest left next pair (All-contains_itself pairs) starts yields is takes)
+  -- pairs of which one comes before the other don't compare as equal, in either order
+  apart : (a b : Found Shown) → pair_cmp (pair_of a) (pair_of b) ≡ Less → eq_by_cmp found_cmp a b ≡ false
+  apart a b less = ⊎_elim (λ e. absurd (not_equal e)) (λ e. e) (cases_Bool (eq_by_cmp found_cmp a b)) where
+    tied : pair_cmp (pair_of a) (pair_of b) ≡ ordering_then (nat_cmp a.end b.end) (nat_cmp a.start b.start)
+    tied = refl
+
+    both : (o p : Ordering) → ordering_then o p ≡ Equal → ordering_then p o ≡ Equal
+    both Less p e = absurd cc
+    both Equal Less e = absurd cc
+    both Equal Equal e = refl
+    both Equal Greater e = absurd cc
+    both Greater p e = absurd cc
+
+    not_equal : eq_by_cmp found_cmp a b ≡ true → ⊥
+    not_equal e = let same = both (nat_cmp a.start b.start) (nat_cmp a.end b.end) ((Equal-is _).0 e) in absurd cc
+
+  -- what rises by its pairs rises by start and then by end once it is sorted so
+  pub found_rises : (found sorted : List (Found Shown)) → RisesByPair found → IsPermutation found sorted → IsSorted found_cmp sorted → IsStrictlyRising found_cmp sorted
+  found_rises found sorted by_pair moved in_order i j d before inside =
+      let distinct : IsDistinct (eq_by_cmp found_cmp) found = IsDistinct-from_apart (eq_by_cmp found_cmp) found (λ i j d before inside. apart (get_or found i d) (get_or found j d) (by_pair i j d before inside)) in
+      let still = IsDistinct-IsPermutation (eq_by_cmp found_cmp) (eq_by_cmp_equiv found_total).symm found sorted moved distinct in
+      less_by_rest _ (found_cmp (get_or sorted j d) (get_or sorted i d)) (found_total.antisymm (get_or sorted i d) (get_or sorted j d)) (apart_from_distinct (eq_by_cmp found_cmp) sorted i j d still before inside)
+      (sorted_far (λ x y. is_lt (found_cmp x y)) (ranks_by found_total (λ x. x)) sorted in_order i j d (omega arith) inside)
+
+-- of pairs with one end, each is that end with its start
+pub one_end_pair : (group : List Pair) → HaveEnd group → (i : ℕ) (d : Pair) → i < length group → ◌≡◌ {A = Pair} (record { end = (get_or group 0 d).end; start = (get_or group i d).start }) (get_or group i d)
+one_end_pair group one_end zero d inside = refl
+one_end_pair group one_end (suc i) d inside = same_pair _ (get_or group (suc i) d) refl (one_end 0 (suc i) d (omega arith) inside)
+
+-- where none are left, all pairs are done
+pub all_done : (pairs done rest : List Pair) → pairs ≡ done ++ rest → length rest ≡ 0 → done ≡ pairs
+all_done pairs done [] order none = sym (order ∙ append-nil done)
+all_done pairs done (pair ∷ rest) order none = absurd (omega arith)

@@ -1,14 +1,17 @@
 -- Tables of paths, a step and a path at a time.
-use Rattle.std.proofs.Common.{◌≡◌, ℕ, ℤ, suc, ◌+◌, ◌<◌, ◌≤◌, List, [], ◌∷◌, ◌++◌, length, take, get_or, map, refl, sym, ap, ◌∙◌, arith, append_assoc}
+use Rattle.std.proofs.Common.{◌≡◌, ℕ, ℤ, suc, ◌+◌, ◌<◌, ◌≤◌, List, [], ◌∷◌, ◌++◌, length, take, get_or, map, refl, sym, ap, ◌∙◌, arith, append_assoc, append-nil}
 use Rattle.std.specs.Prelude.{flat_map}
-use Rattle.std.proofs.lemmas.List.{take_more, take_all, length-take-le, length-append}
+use Rattle.std.proofs.lemmas.List.{take_more, take_all, length-take-le, length-append, map-append}
+use Rattle.std.proofs.lemmas.List.Concat.{flat_map-append}
 use Rattle.pgr_walks.specs.declared.link.LinkOf.{LinkOf}
 use Rattle.pgr_route.specs.declared.step.Step.{Step}
 use Rattle.pgr_route.specs.Steps.{steps_of}
-use Rattle.pgr_numbers.specs.Names.{named}
+use Rattle.pgr_numbers.specs.Names.{id_at, named}
 use Rattle.pgr_rows.specs.declared.rows.PathRow.{PathRow}
-use Rattle.pgr_answer.specs.Paths.{path_row, path_rows, rows_of_walk, numbered_from}
-use Rattle.pgr_answer.specs.Found.{walks_of}
+use Rattle.pgr_answer.specs.declared.found.Found.{Found}
+use Rattle.pgr_answer.specs.Answers.{Answer}
+use Rattle.pgr_answer.specs.Paths.{path_row, path_rows, rows_of_walk, numbered_from, path_table}
+use Rattle.pgr_answer.specs.Found.{seen, answer_of, walks_found}
 
 -- numbering changes the number of no rows
 pub length-numbered_from : (n : ℕ) (rows : List PathRow) → length (numbered_from n rows) ≡ length rows
@@ -73,30 +76,38 @@ path_more before start end steps i d old new len row within so_far len_is is_row
 pub path_all : (before : List PathRow) (start end : ℤ) (steps : List Step) (i : ℕ) (rows : List PathRow) → length steps ≤ i → rows ≡ with_path before start end (take i steps) → rows ≡ with_path before start end steps
 path_all before start end steps i rows all is = is ∙ ap (with_path before start end) (take_all i steps all)
 
--- rows, and behind them the numbered rows of the routes of entries
-abbrev pub with_routes : List PathRow → List ℤ → List ((ℤ × ℤ) × List (LinkOf ℕ)) → List PathRow
-with_routes rows names entries = rows ++ numbered_from (length rows + 1) (flat_map rows_of_walk (walks_of names entries))
+-- the table with the path of one more walk behind the others
+path_table-push : (answers : List (Answer (List (LinkOf ℤ)))) (answer : Answer (List (LinkOf ℤ))) → path_table (answers ++ answer ∷ []) ≡ with_path (path_table answers) answer.start answer.end (steps_of answer.shown)
+path_table-push answers answer =
+    let rows = flat_map rows_of_walk answers in
+    let path = rows_of_walk answer in
+    let len : 1 + length rows ≡ length (path_table answers) + 1 = omega (arith, length-numbered_from 1 rows) in
+    ap (numbered_from 1) (flat_map-append rows_of_walk answers (answer ∷ []) ∙ ap (λ r. rows ++ r) (append-nil path))
+    ∙ numbered_from-append 1 rows path
+    ∙ ap (λ m. numbered_from 1 rows ++ numbered_from m path) len
 
--- the rows with the path of the first entry, and behind them those of the other entries
-pub with_routes-first : (rows : List PathRow) (names : List ℤ) (start end : ℤ) (route : List (LinkOf ℕ)) (rest : List ((ℤ × ℤ) × List (LinkOf ℕ))) → with_routes (with_path rows start end (steps_of (map (named names) route))) names rest ≡ with_routes rows names (((start, end), route) ∷ rest)
-with_routes-first rows names start end route rest =
-    let path = path_rows start end 1 (steps_of (map (named names) route)) in
-    let others = flat_map rows_of_walk (walks_of names rest) in
-    let n = length rows + 1 in
-    let len : length (rows ++ numbered_from n path) + 1 ≡ n + length path = omega (arith, length-append rows (numbered_from n path), length-numbered_from n path) in
-    ap (λ m. (rows ++ numbered_from n path) ++ numbered_from m others) len
-    ∙ append_assoc rows (numbered_from n path) (numbered_from (n + length path) others)
-    ∙ ap (λ r. rows ++ r) (sym (numbered_from-append n path others))
-
--- the path of the first entry that is left is put behind the rows so far
-pub routes_more : (names : List ℤ) (start end : ℤ) (route : List (LinkOf ℕ)) (left rest : List ((ℤ × ℤ) × List (LinkOf ℕ))) (steps : List Step) (old new table : List PathRow)
-    → left ≡ ((start, end), route) ∷ rest
-    → steps ≡ steps_of (map (named names) route)
+-- the path of the next route that is found is put behind the rows so far
+pub routes_more : (names : List ℤ) (found : List (Found (List (LinkOf ℕ)))) (i : ℕ) (this : Found (List (LinkOf ℕ))) (start end : ℤ) (steps : List Step) (old new : List PathRow)
+    → i < length found
+    → this ≡ get_or found i this
+    → start ≡ id_at names this.start
+    → end ≡ id_at names this.end
+    → steps ≡ steps_of (map (named names) this.kept)
+    → old ≡ path_table (walks_found names (take i found))
     → new ≡ with_path old start end steps
-    → with_routes old names left ≡ table
-    → with_routes new names rest ≡ table
-routes_more names start end route left rest steps old new table is_left are_steps is_new so_far =
-    ap (λ (rows : List PathRow). with_routes rows names rest) (is_new ∙ ap (with_path old start end) are_steps)
-    ∙ with_routes-first old names start end route rest
-    ∙ ap (with_routes old names) (sym is_left)
-    ∙ so_far
+    → new ≡ path_table (walks_found names (take (i + 1) found))
+routes_more names found i this start end steps old new within is start_is end_is are_steps so_far is_new =
+    let answer : Found (List (LinkOf ℕ)) → Answer (List (LinkOf ℤ)) = λ f. seen (map (named names)) (answer_of names f) in
+    let longer = take_more found i this within ∙ ap (λ f. take i found ++ f ∷ []) (sym is) in
+    is_new
+    ∙ ap (λ rows. with_path rows start end steps) so_far
+    ∙ ap (λ s. with_path (path_table (walks_found names (take i found))) s end steps) start_is
+    ∙ ap (λ e. with_path (path_table (walks_found names (take i found))) (id_at names this.start) e steps) end_is
+    ∙ ap (with_path (path_table (walks_found names (take i found))) (id_at names this.start) (id_at names this.end)) are_steps
+    ∙ sym (path_table-push (walks_found names (take i found)) (answer this))
+    ∙ ap path_table (sym (map-append answer (take i found) (this ∷ [])))
+    ∙ ap (λ fs. path_table (map answer fs)) (sym longer)
+
+-- the rows are those of all routes
+pub routes_all : (names : List ℤ) (found : List (Found (List (LinkOf ℕ)))) (i : ℕ) (rows : List PathRow) → length found ≤ i → rows ≡ path_table (walks_found names (take i found)) → rows ≡ path_table (walks_found names found)
+routes_all names found i rows past is = is ∙ ap (λ fs. path_table (walks_found names fs)) (take_all i found past)

@@ -1,30 +1,33 @@
-ghost use Rattle.std.specs.Prelude.{◌≡◌, map, IfOk};
+ghost use Rattle.std.specs.Prelude.{◌≡◌, ◌<◌, All, map, length, IfOk};
 ghost use Rattle.pgr_answer.specs.CostTables.{cost_row};
-ghost use Rattle.pgr_answer.specs.Found.{answers_of, seen};
+ghost use Rattle.pgr_answer.specs.Found.{costs_found};
+ghost use Rattle.pgr_answer.specs.Finding.{HasNames};
 
+use crate::found::Found;
 use crate::kept::LeastCost;
+use pgr_numbers::Names;
 use pgr_outside::NoMemory;
 use pgr_rows::CostRow;
 use std::alloc::Global;
-use std::collections::BTreeMap;
 
-/// A row for the cost of each pair.
+/// A row for each cost that is found, with the ids of its pair.
 ///
 /// `NoMemory` may come at any call.
 pub(crate) fn rows_of_costs(
     alloc: Global,
-    costs: &BTreeMap<(i64, i64), LeastCost>,
+    names: &Names,
+    found: &[Found<LeastCost>],
 ) -> Result<Vec<CostRow>, NoMemory>
-    ensures { IfOk result (λ rows. rows.items ≡ map cost_row (map (seen (λ least. least.cost)) (answers_of costs.now.entries))) }
+    requires { All (HasNames (length names.now)) found.now }
+    ensures { IfOk result (λ rows. rows.items ≡ map cost_row (costs_found names.now (λ least. least.cost) found.now)) }
 {
     let mut rows = Vec::new(alloc);
-    for (pair, least) in costs {
-        let row = CostRow {
-            start_vid: pair.0,
-            end_vid: pair.1,
-            agg_cost: least.cost,
-        };
-        rows.push(row).map_err(|_| NoMemory)?;
+    for found in found {
+        rows.push(CostRow {
+            start_vid: names.name(found.start),
+            end_vid: names.name(found.end),
+            agg_cost: found.kept.cost,
+        })?;
     }
     Ok(rows)
 }

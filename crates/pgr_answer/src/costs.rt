@@ -7,7 +7,8 @@ use crate::cost_rows::rows_of_costs;
 use crate::found::found_for;
 use crate::kept::LeastCost;
 use crate::network::network_of;
-use crate::pairs::answered_pairs;
+use crate::pairs::asked_pairs;
+use pgr_numbers::numbers_rise_with_ids;
 use pgr_outside::{Listed, NoMemory};
 use pgr_rows::Rows;
 use pgr_table::{EdgeTable, PairTable};
@@ -27,8 +28,11 @@ pub(crate) fn costs_between(
     ensures { IfOk result (IsCostTable (IsLinkOfTable edges.now directed) (IsAsked starts.now ends.now combinations.now)) }
 {
     let network = network_of(alloc, edges, directed)?;
-    let pairs = answered_pairs(alloc, &network, starts, ends, combinations)?;
-    let costs = found_for::<_, LeastCost>(alloc, &network, &pairs)?;
-    let rows = rows_of_costs(alloc, &costs)?;
+    let pairs = asked_pairs(alloc, &network.names, starts, ends, combinations)?;
+    let pairs = pairs.as_slice();
+    let found = found_for::<_, LeastCost>(alloc, &network, pairs)?;
+    let found = found.as_slice();
+    numbers_rise_with_ids();
+    let rows = rows_of_costs(alloc, &network.names, found)?;
     Ok(Rows::Costs(Listed::from_vec(rows)))
 }

@@ -3,9 +3,10 @@ ghost use Rattle.pgr_answer.specs.Dijkstra.{IsDijkstra};
 
 use crate::found::found_for;
 use crate::network::network_of;
-use crate::pairs::answered_pairs;
+use crate::pairs::asked_pairs;
 use crate::path_rows::rows_of_routes;
 use crate::tables::Tables;
+use pgr_numbers::numbers_rise_with_ids;
 use pgr_outside::{Listed, NoMemory};
 use pgr_route::Route;
 use pgr_rows::Rows;
@@ -25,8 +26,11 @@ pub(crate) fn dijkstra_rows(
     let network = network_of(alloc, &tables.edges, command.directed)?;
     let starts = command.starts.as_slice();
     let ends = command.ends.as_slice();
-    let pairs = answered_pairs(alloc, &network, starts, ends, &tables.combinations)?;
-    let routes = found_for::<_, Route>(alloc, &network, &pairs)?;
-    let rows = rows_of_routes(alloc, &network.names, &routes)?;
+    let pairs = asked_pairs(alloc, &network.names, starts, ends, &tables.combinations)?;
+    let pairs = pairs.as_slice();
+    let found = found_for::<_, Route>(alloc, &network, pairs)?;
+    let found = found.as_slice();
+    numbers_rise_with_ids();
+    let rows = rows_of_routes(alloc, &network.names, found)?;
     Ok(Rows::Paths(Listed::from_vec(rows)))
 }

@@ -1,99 +1,122 @@
-ghost use Rattle.std.specs.Prelude.{◌≡◌, ◌≢◌, ◌<◌, ℤ, [], ◌∷◌, length, Contains, IfOk, OnOk};
-ghost use Rattle.std.specs.BTreeMap.{IsOrdered};
-ghost use Rattle.pgr_walks.specs.Graph.{IsLinkOf};
+ghost use Rattle.std.specs.Prelude.{◌≡◌, ◌≢◌, ◌<◌, ◌≤◌, [], ◌∷◌, length, take, All, Contains, IfOk, OnOk};
+ghost use Rattle.pgr_outside.specs.Lists.{IsStrictlyRising};
 ghost use Rattle.pgr_walks.specs.Label.{HoldsLabels};
-ghost use Rattle.pgr_numbers.specs.Names.{id_at};
+ghost use Rattle.pgr_walks.specs.LinksOf.{LinksOf};
 ghost use Rattle.pgr_answer.specs.Networks.{IsNetwork};
-ghost use Rattle.pgr_answer.specs.Pairs.{IsAnswerable};
-ghost use Rattle.pgr_answer.specs.Answers.{AreAnswers};
-ghost use Rattle.pgr_answer.specs.Found.{answers_of};
-ghost use Rattle.pgr_answer.specs.Finding.{pair_cmp, HoldsLabelsTo, IsAdded};
+ghost use Rattle.pgr_answer.specs.Gathering.{pair_cmp};
+ghost use Rattle.pgr_answer.specs.Finding.{found_cmp, IsPairAmong, HaveEnd, AreFound, Extends};
 
 use crate::kept::Kept;
 use crate::network::Network;
-use pgr_numbers::{Names, graph_of_numbered_links_fits};
+use crate::pair::Pair;
+use pgr_numbers::graph_of_numbered_links_fits;
 use pgr_outside::NoMemory;
 use pgr_search::{Room, labels_to};
 use pgr_walks::Graph;
 use std::alloc::Global;
-use std::collections::{BTreeMap, BTreeSet};
 
-/// What is kept of the walks of each pair that has one, by start and end.
+/// What is kept of the walks of a pair, with the numbers of its vertices.
+#[derive(Drop)]
+pub(crate) struct Found<K> {
+    /// The number of the vertex where the walks start.
+    pub start: u32,
+    /// The number of the vertex where they end.
+    pub end: u32,
+    /// What is kept of them.
+    pub kept: K,
+}
+
+/// What is kept of the walks of each pair that has one, by rising start and then by rising end.
 ///
-/// Each pair is its end and its start, and is answered; where pairs with one end stand together, one search serves them
-/// all. `NoMemory` may come at any call.
+/// The pairs rise by end and then by start, and each is of two numbers that differ: one search serves all pairs with
+/// one end. `NoMemory` may come at any call.
 pub(crate) fn found_for<G: Graph, K: Kept>(
     alloc: Global,
     network: &Network<G>,
-    pairs: &BTreeSet<(i64, i64)>,
-) -> Result<BTreeMap<(i64, i64), K>, NoMemory>
+    pairs: &[Pair],
+) -> Result<Vec<Found<K>>, NoMemory>
     requires network { IsNetwork network.now.links.items network.now.names (G.count network.now.graph) (G.ins network.now.graph) }
-    requires answerable { (start end : ℤ) → Contains pairs.now.keys (end, start) → IsAnswerable (Contains network.now.links.items) start end }
-    ensures { IfOk result (λ found. AreAnswers (Contains network.now.links.items) (λ start end. Contains pairs.now.keys (end, start))
-        (K.shows network.now.links.items network.now.names) (answers_of found.entries)) }
+    requires among { All (IsPairAmong (length network.now.names)) pairs.now }
+    requires rise { IsStrictlyRising pair_cmp pairs.now }
+    ensures found { IfOk result (λ found. AreFound (Contains network.now.links.items)
+        (K.shows network.now.links.items network.now.names) network.now.names pairs.now found.items) }
+    ensures rise { IfOk result (λ found. IsStrictlyRising found_cmp found.items) }
 {
     let mut room = Room::for_size(alloc, network.graph.size())?;
-    let mut searched = None;
-    let mut found = BTreeMap::new(alloc);
-    for &(end, start) in pairs {
-        let end = number_of(&network.names, end);
-        let start = number_of(&network.names, start);
-        search_to(network, end, searched, &mut room);
-        searched = Some(end);
-        add_found(alloc, network, &room, start, end, &mut found)?;
+    let mut found = Vec::new(alloc);
+    let mut rest = pairs;
+    while !rest.is_empty() {
+        let (group, later) = rest.split_at(count_of_end(rest));
+        find_group(alloc, network, group, &mut room, &mut found)?;
+        rest = later;
     }
+    found.sort_unstable_by_key(|found| (found.start, found.end));
     Ok(found)
 }
 
-/// The number of an id that is a name.
-fn number_of(names: &Names, id: i64) -> u32
-    requires { Contains names.now id }
-    ensures below { result < length names.now }
-    ensures id { id_at names.now result ≡ id }
+/// How many pairs, from the first one on, have its end.
+fn count_of_end(pairs: &[Pair]) -> usize
+    requires { pairs.now ≢ [] }
+    ensures some { 0 < result }
+    ensures within { result ≤ length pairs.now }
+    ensures one_end { HaveEnd (take result pairs.now) }
 {
-    names.number(id).unwrap()
-}
-
-/// Has the room hold the labels to an end, by a search unless they are what it holds.
-///
-/// It holds the labels to the vertex that was searched for last, if there was one.
-fn search_to<G: Graph>(network: &Network<G>, end: u32, searched: Option<u32>, room: &mut Room)
-    requires network { IsNetwork network.now.links.items network.now.names (G.count network.now.graph) (G.ins network.now.graph) }
-    requires end { end < length network.now.names }
-    requires size { length room.old ≡ G.count network.now.graph }
-    requires searched { HoldsLabelsTo (G.count network.now.graph) (G.ins network.now.graph) searched room.old }
-    ensures { HoldsLabels (G.count network.now.graph) (IsLinkOf (G.count network.now.graph) (G.ins network.now.graph)) (end ∷ []) room.new }
-{
-    if searched != Some(end) {
-        graph_of_numbered_links_fits(&network.graph);
-        labels_to(&network.graph, &[end], room);
+    let end = pairs[0].end;
+    for (i, pair) in pairs.iter().enumerate() {
+        if pair.end != end {
+            return i;
+        }
     }
+    pairs.len()
 }
 
-/// Adds what is kept of the walks from a start to an end, by their numbers, if a walk leads there.
+/// Finds what is kept of the walks of pairs that have one end, by one search.
+fn find_group<G: Graph, K: Kept>(
+    alloc: Global,
+    network: &Network<G>,
+    group: &[Pair],
+    room: &mut Room,
+    found: &mut Vec<Found<K>>,
+) -> Result<(), NoMemory>
+    requires network { IsNetwork network.now.links.items network.now.names (G.count network.now.graph) (G.ins network.now.graph) }
+    requires some { group.now ≢ [] }
+    requires one_end { HaveEnd group.now }
+    requires among { All (IsPairAmong (length network.now.names)) group.now }
+    requires size { length room.old ≡ G.count network.now.graph }
+    ensures found { OnOk result (Extends (Contains network.now.links.items)
+        (K.shows network.now.links.items network.now.names) network.now.names group.now found.old.items found.new.items) }
+    ensures size { length room.new ≡ G.count network.now.graph }
+{
+    let end = group[0].end;
+    graph_of_numbered_links_fits(&network.graph);
+    labels_to(&network.graph, &[end], room);
+    for pair in group {
+        find_pair(alloc, network, room, pair.start, end, found)?;
+    }
+    Ok(())
+}
+
+/// Finds what is kept of the walks of a pair, if one leads from its start to its end.
 ///
-/// The room holds the labels to the end alone, and the two differ. `NoMemory` may come at any call.
-fn add_found<G: Graph, K: Kept>(
+/// The room holds the labels to the end alone.
+fn find_pair<G: Graph, K: Kept>(
     alloc: Global,
     network: &Network<G>,
     room: &Room,
     start: u32,
     end: u32,
-    found: &mut BTreeMap<(i64, i64), K>,
+    found: &mut Vec<Found<K>>,
 ) -> Result<(), NoMemory>
     requires network { IsNetwork network.now.links.items network.now.names (G.count network.now.graph) (G.ins network.now.graph) }
-    requires room { HoldsLabels (G.count network.now.graph) (IsLinkOf (G.count network.now.graph) (G.ins network.now.graph)) (end ∷ []) room.now }
+    requires room { HoldsLabels (G.count network.now.graph) (LinksOf G.Graph network.now.graph) (end ∷ []) room.now }
     requires start { start < length network.now.names }
     requires end { end < length network.now.names }
     requires differ { start ≢ end }
-    requires ordered { IsOrdered pair_cmp found.old }
-    ensures added { OnOk result (IsAdded (Contains network.now.links.items) (K.shows network.now.links.items network.now.names)
-        (id_at network.now.names start) (id_at network.now.names end) found.old found.new) }
-    ensures ordered { OnOk result (IsOrdered pair_cmp found.new) }
+    ensures { OnOk result (Extends (Contains network.now.links.items)
+        (K.shows network.now.links.items network.now.names) network.now.names (record { end = end; start = start } ∷ []) found.old.items found.new.items) }
 {
     if let Some(kept) = K::of(alloc, network, room, start, end)? {
-        let pair = (network.names.name(start), network.names.name(end));
-        found.insert(pair, kept).map_err(|_| NoMemory)?;
+        found.push(Found { start, end, kept })?;
     }
     Ok(())
 }

@@ -1,13 +1,14 @@
-//! From a command and a store of files to rows: which pairs of vertices are answered, and with what.
+//! From a command and a store of files to rows: which pairs of vertices can be answered, and with what.
 //!
-//! [`answer`] reads the files that a [`Command`](pgr_words::Command) names, each by its [`Role`], and gives the
+//! [`answer`] reads the files that a [`Command`](pgr_words::Command) names, each by its [`Role`], and returns the
 //! [`Answered`] rows and notes, or the first cause why there are none, a [`Refused`].
-//! Proved: where there is an answer the files are accepted, as far as they are told (`accepted`), its rows are a table
-//! that the command allows over the tables that the told contents are (`allowed`), and there are no notes (`notes`); every
-//! refusal but want of memory has its cause (`refused`), and where a told content is refused, that is the answer, unless
-//! memory was wanting or a read failed (`first`), and where none is there is an answer, with the same two exceptions
-//! (`completes`). Laws: one table at most is allowed, and the least walk has the least cost. Not proved: time, and that
-//! memory suffices.
+//! Proved: where there are rows, every file has a content, the known one where it is known, that is an accepted table, and
+//! the rows are allowed for the command over the tables that these contents are (`allowed`); there are no notes (`notes`).
+//! Every refusal but out of memory has its cause: a count of faults that rose, or a content of the file that is refused so,
+//! behind files whose contents are accepted (`refused`). Where a known content is refused, that is the answer, unless
+//! memory ran out or a read failed (`first`), and where all are known and accepted there are rows, with the same two
+//! exceptions (`completes`). Laws: one table at most is allowed, and one at most answers a command where all contents are
+//! known; the least walk has the least cost. Not proved: time, and that memory suffices.
 #![tactic(auto)]
 
 mod answered;
@@ -21,6 +22,7 @@ mod found;
 mod kept;
 mod laws;
 mod network;
+mod pair;
 mod pairs;
 mod path_rows;
 mod reading;

@@ -1,103 +1,117 @@
-ghost use Rattle.std.specs.Prelude.{◌≡◌, ◌↔◌, ℤ, Contains, IfOk, OnOk, IsTrue};
-ghost use Rattle.pgr_numbers.specs.Names.{AreEnds};
-ghost use Rattle.pgr_answer.specs.Pairs.{IsAsked, IsAnswerable};
-ghost use Rattle.pgr_answer.specs.Gathering.{Gathers, IsAnswerableAmong, IsPairOfLists, IsPairFrom, IsPairOfRows, IsThisPair};
+ghost use Rattle.std.specs.Prelude.{◌↔◌, Contains, IfOk, OnOk};
+ghost use Rattle.pgr_outside.specs.Lists.{IsStrictlyRising};
+ghost use Rattle.pgr_answer.specs.Pairs.{IsAsked};
+ghost use Rattle.pgr_answer.specs.Gathering.{pair_cmp, AreNumbersOf, GainsNumber, IsNumberedPair, Gains, IsThisPair, IsPairTo, IsPairOfLists, IsPairOfRows, IsPairOfIds};
+ghost use Rattle.pgr_answer.specs.declared.pair.Pair.{Pair as APair};
 
-use crate::network::Network;
-use pgr_numbers::Names;
+use crate::pair::Pair;
+use pgr_numbers::{Names, numbers_rise_with_ids};
 use pgr_outside::NoMemory;
 use pgr_table::PairTable;
 use std::alloc::Global;
-use std::collections::BTreeSet;
 
-/// The pairs that are asked for and answered, each once as its end and its start, by rising end and then by rising start.
+/// The pairs that are asked for and can be answered among the names, each once, by rising end and then by rising start.
 ///
 /// Those of one end stand together, so that one search serves them all. `NoMemory` may come at any call.
-pub(crate) fn answered_pairs<G>(
+pub(crate) fn asked_pairs(
     alloc: Global,
-    network: &Network<G>,
+    names: &Names,
     starts: &[i64],
     ends: &[i64],
     combinations: &PairTable,
-) -> Result<BTreeSet<(i64, i64)>, NoMemory>
-    requires { AreEnds network.now.links.items network.now.names }
-    ensures { IfOk result (λ pairs. (start end : ℤ) → Contains pairs.keys (end, start)
-        ↔ (IsAsked starts.now ends.now combinations.now start end × IsAnswerable (Contains network.now.links.items) start end)) }
+) -> Result<Vec<Pair>, NoMemory>
+    ensures exactly { IfOk result (λ pairs. (pair : APair) → Contains pairs.items pair
+        ↔ IsNumberedPair names.now (IsAsked starts.now ends.now combinations.now) pair) }
+    ensures rise { IfOk result (λ pairs. IsStrictlyRising pair_cmp pairs.items) }
 {
-    let mut pairs = BTreeSet::new(alloc);
-    insert_lists(&mut pairs, &network.names, starts, ends)?;
-    insert_combinations(&mut pairs, &network.names, combinations)?;
+    let starts = numbers_of(alloc, names, starts)?;
+    let ends = numbers_of(alloc, names, ends)?;
+    let mut pairs = Vec::new(alloc);
+    push_lists(&mut pairs, starts.as_slice(), ends.as_slice())?;
+    push_rows(&mut pairs, names, combinations)?;
+    pairs.sort_unstable();
+    pairs.dedup();
     Ok(pairs)
 }
 
-// Adds the pairs of a start and an end of the two lists that can be answered among the names.
-fn insert_lists(
-    pairs: &mut BTreeSet<(i64, i64)>,
-    names: &Names,
-    starts: &[i64],
-    ends: &[i64],
-) -> Result<(), NoMemory>
-    ensures { OnOk result (Gathers names.now (IsPairOfLists starts.now ends.now) pairs.old.keys pairs.new.keys) }
+/// The numbers of the ids that are names, in order.
+fn numbers_of(alloc: Global, names: &Names, ids: &[i64]) -> Result<Vec<u32>, NoMemory>
+    ensures { IfOk result (λ numbers. AreNumbersOf names.now ids.now numbers.items) }
+{
+    let mut numbers = Vec::new(alloc);
+    for id in ids {
+        push_number(&mut numbers, names, *id)?;
+    }
+    Ok(numbers)
+}
+
+/// Adds the number of an id, if it is a name.
+fn push_number(numbers: &mut Vec<u32>, names: &Names, id: i64) -> Result<(), NoMemory>
+    ensures { OnOk result (GainsNumber names.now id numbers.old.items numbers.new.items) }
+{
+    names.len();
+    numbers_rise_with_ids();
+    let Some(number) = names.number(id) else {
+        return Ok(());
+    };
+    numbers.push(number)?;
+    Ok(())
+}
+
+/// Adds the pairs of a start and an end of the two lists that differ.
+fn push_lists(pairs: &mut Vec<Pair>, starts: &[u32], ends: &[u32]) -> Result<(), NoMemory>
+    ensures { OnOk result (Gains (IsPairOfLists starts.now ends.now) pairs.old.items pairs.new.items) }
+{
+    for end in ends {
+        push_starts(pairs, starts, *end)?;
+    }
+    Ok(())
+}
+
+/// Adds the pairs of a start of the list and the end that differ.
+fn push_starts(pairs: &mut Vec<Pair>, starts: &[u32], end: u32) -> Result<(), NoMemory>
+    ensures { OnOk result (Gains (IsPairTo starts.now end) pairs.old.items pairs.new.items) }
 {
     for start in starts {
-        insert_ends_of(pairs, names, *start, ends)?;
+        push_pair(pairs, *start, end)?;
     }
     Ok(())
 }
 
-// Adds the pairs of a start and an end of the list that can be answered among the names.
-fn insert_ends_of(
-    pairs: &mut BTreeSet<(i64, i64)>,
-    names: &Names,
-    start: i64,
-    ends: &[i64],
-) -> Result<(), NoMemory>
-    ensures { OnOk result (Gathers names.now (IsPairFrom start ends.now) pairs.old.keys pairs.new.keys) }
+/// Adds the pair, if its vertices differ.
+fn push_pair(pairs: &mut Vec<Pair>, start: u32, end: u32) -> Result<(), NoMemory>
+    ensures { OnOk result (Gains (IsThisPair start end) pairs.old.items pairs.new.items) }
 {
-    if names.number(start).is_none() {
-        return Ok(());
-    }
-    for end in ends {
-        insert_answered(pairs, names, start, *end)?;
+    if start != end {
+        pairs.push(Pair { end, start })?;
     }
     Ok(())
 }
 
-// Adds the pairs of the rows that can be answered among the names.
-fn insert_combinations(
-    pairs: &mut BTreeSet<(i64, i64)>,
-    names: &Names,
-    table: &PairTable,
-) -> Result<(), NoMemory>
-    ensures { OnOk result (Gathers names.now (IsPairOfRows table.now) pairs.old.keys pairs.new.keys) }
+/// Adds the pairs of the rows whose vertices are names that differ.
+fn push_rows(pairs: &mut Vec<Pair>, names: &Names, table: &PairTable) -> Result<(), NoMemory>
+    ensures { OnOk result (Gains (IsPairOfRows names.now table.now) pairs.old.items pairs.new.items) }
 {
     for i in 0..table.len() {
         let row = table.row(i);
-        insert_answered(pairs, names, row.source, row.target)?;
+        push_ids(pairs, names, row.source, row.target)?;
     }
     Ok(())
 }
 
-// Adds the pair, if it can be answered among the names.
-fn insert_answered(
-    pairs: &mut BTreeSet<(i64, i64)>,
-    names: &Names,
-    start: i64,
-    end: i64,
-) -> Result<(), NoMemory>
-    ensures { OnOk result (Gathers names.now (IsThisPair start end) pairs.old.keys pairs.new.keys) }
+/// Adds the pair of the numbers of two ids, if both are names and they differ.
+fn push_ids(pairs: &mut Vec<Pair>, names: &Names, start: i64, end: i64) -> Result<(), NoMemory>
+    ensures { OnOk result (Gains (IsPairOfIds names.now start end) pairs.old.items pairs.new.items) }
 {
-    if is_answerable(names, start, end) {
-        pairs.insert((end, start)).map_err(|_| NoMemory)?;
-    }
-    Ok(())
-}
-
-// Whether the pair can be answered among the names.
-fn is_answerable(names: &Names, start: i64, end: i64) -> bool
-    ensures { IsTrue result ↔ IsAnswerableAmong names.now start end }
-{
-    start != end && names.number(start).is_some() && names.number(end).is_some()
+    names.len();
+    numbers_rise_with_ids();
+    let Some(start) = names.number(start) else {
+        return Ok(());
+    };
+    let Some(end) = names.number(end) else {
+        return Ok(());
+    };
+    push_pair(pairs, start, end)
 }
 
 #[cfg(test)]
@@ -124,36 +138,26 @@ mod tests {
         let links = Vec::from_array(rt.alloc(), [link(10, 20), link(20, 30)])?;
         names_are_few(&links);
         let names = Names::of(rt.alloc(), &links)?;
-        let network = Network {
-            links,
-            names,
-            graph: (),
-        };
         let rows = read_combinations(rt.alloc(), b"source,target\n30,10\n10,20\n20,40\n20,20\n")?;
-        let pairs = answered_pairs(rt.alloc(), &network, &[20, 40, 10, 20], &[20, 30], &rows)?;
-        let pairs: Vec<(i64, i64)> = pairs.iter().copied().collect(rt.alloc())?;
-        let expected = [(10, 30), (20, 10), (30, 10), (30, 20)];
+        let pairs = asked_pairs(rt.alloc(), &names, &[20, 40, 10, 20], &[20, 30], &rows)?;
+        // The ids 10, 20 and 30 have the numbers 0, 1 and 2.
+        let expected = [
+            Pair { end: 0, start: 2 },
+            Pair { end: 1, start: 0 },
+            Pair { end: 2, start: 0 },
+            Pair { end: 2, start: 1 },
+        ];
         assert_eq!(rt; pairs.as_slice(), expected.as_slice());
         Ok(())
     }
 
     #[test]
-    fn where_nothing_is_asked_for_no_pair_is_answered(rt: HostRuntime) -> Result<(), Fail> {
+    fn where_nothing_is_asked_for_there_is_no_pair(rt: HostRuntime) -> Result<(), Fail> {
         let links = Vec::from_array(rt.alloc(), [link(10, 20)])?;
         names_are_few(&links);
         let names = Names::of(rt.alloc(), &links)?;
-        let network = Network {
-            links,
-            names,
-            graph: (),
-        };
-        let pairs = answered_pairs(
-            rt.alloc(),
-            &network,
-            &[10],
-            &[],
-            &PairTable::empty(rt.alloc()),
-        )?;
+        let none = PairTable::empty(rt.alloc());
+        let pairs = asked_pairs(rt.alloc(), &names, &[10], &[], &none)?;
         assert!(rt; pairs.is_empty());
         Ok(())
     }

@@ -3,7 +3,7 @@ use pgr_outside::NoMemory;
 use pgr_table::TableFault;
 use thiserror::Error;
 
-/// Why a command isn't answered: the first cause, in this order.
+/// Why there are no rows: the first cause, in this order.
 ///
 /// The files that the command names are read in order, the edges and then the combinations. Each is read whole, then it
 /// is judged, and only then the next one is read.
@@ -18,7 +18,7 @@ pub enum Refused {
     /// The file with this role isn't an accepted table: its first fault.
     #[error("{0}: {1}")]
     Table(Role, TableFault),
-    /// Memory was wanting.
+    /// Out of memory.
     #[error("want of memory")]
     Memory,
 }

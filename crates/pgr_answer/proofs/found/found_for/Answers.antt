@@ -1,47 +1,51 @@
-use Rattle.std.proofs.Common.{rules, ◌≡◌, ◌∙◌, sym, ap, map, w64}
-use Rattle.std.specs.Map.Iter.{deref}
-use Rattle.std.proofs.lemmas.Int.{to_z-of_z}
-use Rattle.std.proofs.lemmas.List.{map-append}
-use Rattle.std.proofs.lemmas.Map.Iter.{iter_end}
-use mir.Val.{SFits}
-use Rattle.pgr_numbers.specs.Names.{id_at}
-use Rattle.pgr_answer.proofs.FoundLemmas.{answered_turn, found_more, found_all}
+-- Group by group what is found is for the pairs so far; the sort moves it alone.
+use Rattle.std.proofs.Common.{◌≡◌, ◌++◌, [], length, refl, sym, ap, subst, ◌∙◌, rules, arith, append_assoc, take-append-drop}
+use Rattle.std.specs.Prelude.{All, Contains}
+use Rattle.std.proofs.lemmas.Bool.Decides.{Decides-eqb}
+use Rattle.std.proofs.lemmas.List.Elements.{All-take, All-drop}
+use Rattle.std.proofs.lemmas.List.Sorted.{answers_always}
+use Rattle.pgr_outside.specs.Lists.{IsStrictlyRising}
+use Rattle.pgr_answer.specs.Gathering.{pair_cmp}
+use Rattle.pgr_answer.specs.Finding.{IsPairAmong, AreFound}
+use Rattle.pgr_answer.proofs.FoundLemmas.{none_found, rises_front, found_moved, found_rises, all_done}
 use Rattle.pgr_answer.proofs.found.found_for.Goals as goal
 
-pub number_of-end-requires : goal.number_of-end-requires
-number_of-end-requires g c =
-    let fits : SFits w64 c.in-Some.field-0.now.0 = search rules in
-    let answerable = answered_turn _ _ c.requires.answerable _ _ _ _ _ _ c.into_iter-end-iterator.ensures.into_iter_gives.0 c.loop-end.yielded_by c.in-Some.is c.next.ensures.steps in
-    simp to_z-of_z ((c.requires.network.ends.ends c.in-Some.field-0.now.0).1 answerable.end_is_vertex)
+pub loop-rest-init : goal.loop-rest-init
+loop-rest-init g c = record {
+  done = [];
+  order = refl;
+  among = c.requires.among;
+  found = rw c.new-found.ensures.items (none_found _ _ _, λ i j d before inside. absurd (omega arith));
+  size = c.in_ok-room.ensures.size ∙ c.size.ensures;
+}
 
-pub number_of-start-requires : goal.number_of-start-requires
-number_of-start-requires g c =
-    let fits : SFits w64 c.in-Some.field-0.now.1 = search rules in
-    let answerable = answered_turn _ _ c.requires.answerable _ _ _ _ _ _ c.into_iter-end-iterator.ensures.into_iter_gives.0 c.loop-end.yielded_by c.in-Some.is c.next.ensures.steps in
-    simp to_z-of_z ((c.requires.network.ends.ends c.in-Some.field-0.now.1).1 answerable.start_is_vertex)
+pub find_group-requires-clause-among : goal.find_group-requires-clause-among
+find_group-requires-clause-among g c = rw c.split_at.ensures.front (All-take (IsPairAmong (length c.args.network.now.names)) _ c.loop-rest.rest.now c.loop-rest.invariant.among)
 
-pub add_found-requires-clause-differ : goal.add_found-requires-clause-differ
-add_found-requires-clause-differ g c = λ same.
-    let end_fits : SFits w64 c.in-Some.field-0.now.0 = search rules in
-    let start_fits : SFits w64 c.in-Some.field-0.now.1 = search rules in
-    let answerable = answered_turn _ _ c.requires.answerable _ _ _ _ _ _ c.into_iter-end-iterator.ensures.into_iter_gives.0 c.loop-end.yielded_by c.in-Some.is c.next.ensures.steps in
-    let start = simp to_z-of_z at c.number_of-start.ensures.id in
-    let end = simp to_z-of_z at c.number_of-end.ensures.id in
-    answerable.differ (sym start ∙ ap (id_at c.args.network.now.names) same ∙ end)
-
-pub loop-end-preserved : goal.loop-end-preserved
-loop-end-preserved g c =
-    let end_fits : SFits w64 c.in-Some.field-0.now.0 = search rules in
-    let start_fits : SFits w64 c.in-Some.field-0.now.1 = search rules in
-    let start = simp to_z-of_z at c.number_of-start.ensures.id in
-    let end = simp to_z-of_z at c.number_of-end.ensures.id in
+pub loop-rest-preserved : goal.loop-rest-preserved
+loop-rest-preserved g c =
+    let so_far = c.loop-rest.invariant in
+    let front = c.split_at.result.0.now in
+    let back = c.split_at.result.1.now in
+    let parts : c.loop-rest.rest.now ≡ front ++ back = rw (c.split_at.ensures.front, c.split_at.ensures.back) (sym (take-append-drop c.count_of_end.result c.loop-rest.rest.now)) in
+    let order : c.args.pairs.now ≡ (so_far.done ++ front) ++ back = so_far.order ∙ ap (λ rest. so_far.done ++ rest) parts ∙ sym (append_assoc so_far.done front back) in
     record {
-      found = rw map-append (found_more _ _ _ _ _ _ (map deref c.loop-end.yielded) c.loop-end.invariant.found (rw (start, end) at c.in_ok-add_found.ensures.added) c.in_ok-add_found.ensures.ordered);
-      size = c.search_to.ensures.size_is;
-      searched = c.search_to.ensures;
+      done = so_far.done ++ front;
+      order = order;
+      among = rw c.split_at.ensures.back (All-drop (IsPairAmong (length c.args.network.now.names)) _ c.loop-rest.rest.now so_far.among);
+      found = c.in_ok-find_group.ensures.found so_far.done (rises_front pair_cmp (so_far.done ++ front) back (subst (IsStrictlyRising pair_cmp) order c.requires.rise)) so_far.found;
+      size = c.in_ok-find_group.ensures.size;
     }
 
-pub returns : goal.returns
-returns g c =
-    let all : map deref c.loop-end.yielded ≡ c.args.pairs.now.keys = search (rules, iter_end) in
-    found_all _ _ _ _ (rw all at c.loop-end.invariant.found) c.requires.answerable
+pub returns-clause-found : goal.returns-clause-found
+returns-clause-found g c =
+    let so_far = c.loop-rest.invariant in
+    let Shows = g.K.Kept.shows c.args.network.now.links.items c.args.network.now.names in
+    let none : length c.loop-rest.rest.now ≡ 0 = (Decides-eqb (length c.loop-rest.rest.now) 0).0 (sym c.is_empty.ensures ∙ c.loop-rest-test.false) in
+    let done = all_done c.args.pairs.now so_far.done c.loop-rest.rest.now so_far.order none in
+    let are = subst (λ pairs. AreFound (Contains c.args.network.now.links.items) Shows c.args.network.now.names pairs c.loop-rest.found.items) done so_far.found.0 in
+    found_moved _ _ _ _ _ _ c.sort_unstable_by_key.ensures.permutation are
+
+pub returns-clause-rise : goal.returns-clause-rise
+returns-clause-rise g c =
+    found_rises _ _ c.loop-rest.invariant.found.1 c.sort_unstable_by_key.ensures.permutation (c.sort_unstable_by_key.ensures.sorted (λ f. (f.start, f.end)) (answers_always _ _ _ (λ f a r g h. search rules)))

@@ -1,13 +1,19 @@
-use Rattle.std.proofs.Common.{◌≡◌, map, length, Contains}
-use Rattle.std.specs.Map.Iter.{deref}
-use Rattle.pgr_answer.specs.Finding.{HoldsLabelsTo}
-use Rattle.pgr_answer.proofs.FoundLemmas.{AreFound}
+use Rattle.std.proofs.Common.{◌≡◌, ℕ, List, ◌++◌, length}
+use Rattle.std.specs.Prelude.{All, Contains}
+use Rattle.pgr_answer.specs.declared.pair.Pair.{Pair}
+use Rattle.pgr_answer.specs.Finding.{IsPairAmong, AreFound, RisesByPair}
 use Rattle.pgr_answer.proofs.found.found_for.Given as goal
 
--- the map has what is found for the pairs so far, and the room holds the labels to the end that was searched for last
-abbrev pub invariant-loop-end : goal.invariant-loop-end
-invariant-loop-end g l = record {
-  found : AreFound (Contains l.network.links.items) (g.K.Kept.shows l.network.links.items l.network.names) (map deref l.yielded) l.found;
+abbrev pub invariant-loop-rest : goal.invariant-loop-rest
+invariant-loop-rest g l = record {
+  -- the pairs that are done, and those that are left
+  done : List Pair;
+  order : l.pairs ≡ done ++ l.rest;
+  among : All (IsPairAmong (length l.network.names)) l.rest;
+  -- what is found is for those that are done
+  found : AreFound (Contains l.network.links.items) (g.K.Kept.shows l.network.links.items l.network.names) l.network.names done l.found.items × RisesByPair l.found.items;
   size : length l.room ≡ g.G.Graph.count l.network.graph;
-  searched : HoldsLabelsTo (g.G.Graph.count l.network.graph) (g.G.Graph.ins l.network.graph) l.searched l.room;
 }
+
+abbrev pub decreases-loop-rest : goal.decreases-loop-rest
+decreases-loop-rest g l = length l.rest
