@@ -11,6 +11,7 @@ use Rattle.pgr_answer.specs.Answers.{Answer, answer_cmp, AreAnswers}
 use Rattle.pgr_answer.specs.Costs.{IsLeastCost}
 use Rattle.pgr_answer.specs.Paths.{IsLeastBetween}
 use Rattle.pgr_answer.specs.Found.{seen}
+use Rattle.pgr_answer.proofs.NetworkLemmas.{IsWalk-along}
 
 -- what holds of each element of a list seen through a function holds of each element so seen
 pub All-from_map : {X Y : Type 0} (P : Y → Type 0) (f : X → Y) (xs : List X) → All P (map f xs) → All (λ x. P (f x)) xs
@@ -38,7 +39,8 @@ answers-seen f Has Asked Shows Shown through answers are = record {
   asked = All-map (λ answer. Asked answer.start answer.end) (seen f) answers are.asked;
   answerable = All-map (λ answer. IsAnswerable Has answer.start answer.end) (seen f) answers are.answerable;
   shows = All-map (λ answer. Shown answer.start answer.end answer.shown) (seen f) answers (λ k d within. through _ _ _ (are.shows k d within));
-  every = λ start end walk asked answerable is_walk. Any-map (λ answer. (answer.start ≡ start) × (answer.end ≡ end)) (seen f) answers (are.every start end walk asked answerable is_walk);
+  every = λ start end walk asked answerable is_walk. Any-map (λ answer. (answer.start ≡ start) × (answer.end ≡ end)) (seen f) answers
+      (are.every start end walk asked answerable is_walk);
   rise = rise-seen f answers are.rise;
 }
 
@@ -53,11 +55,6 @@ answers-asked Has Asked Wanted Shows same answers are = record {
   every = λ start end walk wanted answerable is_walk. are.every start end walk ((same start end answerable).1 wanted) answerable is_walk;
   rise = are.rise;
 }
-
--- a walk over a set of links is one over a set that has them
-pub IsWalk-over : {V : Type 0} (P Q : LinkOf V → Type 0) → ((link : LinkOf V) → P link → Q link) → (s : V) (walk : List (LinkOf V)) (t : V) → IsWalk P s walk t → IsWalk Q s walk t
-IsWalk-over P Q f s [] t is_walk = is_walk
-IsWalk-over P Q f s (link ∷ rest) t is_walk = (f link is_walk.0, is_walk.1, IsWalk-over P Q f link.to rest t is_walk.2)
 
 -- a vertex of a set of links is one of a set that has them
 IsVertex-over : (P Q : LinkOf ℤ → Type 0) → ((link : LinkOf ℤ) → P link → Q link) → (v : ℤ) → IsVertex P v → IsVertex Q v
@@ -83,17 +80,17 @@ module _ (P Q : LinkOf ℤ → Type 0) (same : (link : LinkOf ℤ) → P link �
   -- the least walk over a set of links is least over a set with the same links
   pub IsLeastBetween-over : (s t : ℤ) (walk : List (LinkOf ℤ)) → IsLeastBetween P s t walk → IsLeastBetween Q s t walk
   IsLeastBetween-over s t walk least = record {
-    belongs = IsWalk-over P Q into s walk t least.belongs;
-    precedes = λ other is_walk. least.precedes other (IsWalk-over Q P back s other t is_walk);
+    belongs = IsWalk-along P Q into s walk t least.belongs;
+    precedes = λ other is_walk. least.precedes other (IsWalk-along Q P back s other t is_walk);
   }
 
   -- and so is the least cost
   pub IsLeastCost-over : (s t : ℤ) (cost : ℕ) → IsLeastCost P s t cost → IsLeastCost Q s t cost
   IsLeastCost-over s t cost least = record {
     walk = least.walk;
-    is_walk = IsWalk-over P Q into s least.walk t least.is_walk;
+    is_walk = IsWalk-along P Q into s least.walk t least.is_walk;
     costs = least.costs;
-    least = λ other is_walk. least.least other (IsWalk-over Q P back s other t is_walk);
+    least = λ other is_walk. least.least other (IsWalk-along Q P back s other t is_walk);
   }
 
   -- another set with the same links: the same answers, where what is shown is shown over it too
@@ -104,6 +101,7 @@ module _ (P Q : LinkOf ℤ → Type 0) (same : (link : LinkOf ℤ) → P link �
     asked = are.asked;
     answerable = λ k d within. IsAnswerable-over P Q into _ _ (are.answerable k d within);
     shows = λ k d within. along _ _ _ (are.shows k d within);
-    every = λ start end walk asked answerable is_walk. are.every start end walk asked (IsAnswerable-over Q P back start end answerable) (IsWalk-over Q P back start walk end is_walk);
+    every = λ start end walk asked answerable is_walk. are.every start end walk asked (IsAnswerable-over Q P back start end answerable)
+        (IsWalk-along Q P back start walk end is_walk);
     rise = are.rise;
   }

@@ -10,7 +10,8 @@ use Rattle.pgr_words.specs.Commands.{command_with}
 use Rattle.pgr_rows.specs.declared.rows.PathRow.{PathRow}
 use Rattle.pgr_answer.specs.declared.role.Role.TheVariants.{Edges, Combinations}
 use Rattle.pgr_answer.specs.declared.refused.Refused.TheVariants.{TooLong}
-use Rattle.pgr_answer.specs.Files.{files_of, most_bytes, refusal_of}
+use Rattle.pgr_answer.specs.Files.{File, files_of, most_bytes, refusal_of, IsPossible, AreAccepted}
+use Rattle.pgr_answer.specs.Contents.{tables_of}
 use Rattle.pgr_answer.specs.Pairs.{IsAsked, IsAskedOfMatrix, IsAnswerable}
 use Rattle.pgr_answer.specs.Answers.{Answer, AreAnswers}
 use Rattle.pgr_answer.specs.Paths.{path_table}
@@ -27,6 +28,19 @@ the_edges_come_first = refl
 -- a content that is too long is refused so, whatever else is wrong with it
 too_long : (bytes : List ℕ) → nat_lt most_bytes (length bytes) ≡ true → refusal_of Combinations bytes ≡ Some (TooLong Combinations)
 too_long bytes long = rw long refl
+
+-- where nothing is known of a file, it still has to have a content
+no_contents : (known : List ℕ → Option (List ℕ)) (file : File) → AreAccepted known (file ∷ []) [] → ⊥
+no_contents known file are = let none = are.of_files in absurd cc
+
+-- a known content is the only one
+one_content : (known : List ℕ → Option (List ℕ)) (file : File) (bytes other : List ℕ) → known file.name ≡ Some bytes → IsPossible known (record { file = file; bytes = other })
+    → other ≡ bytes
+one_content known file bytes other is possible = rw is at possible
+
+-- no file of combinations: no row of them
+no_rows : tables_of [] ≡ record { edges = []; combinations = [] }
+no_rows = refl
 
 -- a row of combinations is asked for, though the lists are empty
 a_row_is_asked : IsAsked [] [] (record { source = pos 4; target = pos 2 } ∷ []) (pos 4) (pos 2)
@@ -64,11 +78,13 @@ abbrev answer : ℤ → ℤ → ℕ → Answer ℕ
 answer start end cost = record { start = start; end = end; shown = cost }
 
 -- a pair has one answer
-not_twice : (Has : LinkOf ℤ → Type 0) (Asked : ℤ → ℤ → Type 0) (Shows : ℤ → ℤ → ℕ → Type 0) → AreAnswers Has Asked Shows (answer (pos 1) (pos 4) 7 ∷ answer (pos 1) (pos 4) 7 ∷ []) → ⊥
+not_twice : (Has : LinkOf ℤ → Type 0) (Asked : ℤ → ℤ → Type 0) (Shows : ℤ → ℤ → ℕ → Type 0)
+    → AreAnswers Has Asked Shows (answer (pos 1) (pos 4) 7 ∷ answer (pos 1) (pos 4) 7 ∷ []) → ⊥
 not_twice Has Asked Shows answers = let rise = answers.rise 0 1 (answer (pos 1) (pos 4) 7) (omega arith) (omega arith) in cc
 
 -- answers go by start before end, and a negative id comes before 0
-not_by_end : (Has : LinkOf ℤ → Type 0) (Asked : ℤ → ℤ → Type 0) (Shows : ℤ → ℤ → ℕ → Type 0) → AreAnswers Has Asked Shows (answer (pos 4) (pos 2) 4 ∷ answer (pos 1) (pos 4) 7 ∷ []) → ⊥
+not_by_end : (Has : LinkOf ℤ → Type 0) (Asked : ℤ → ℤ → Type 0) (Shows : ℤ → ℤ → ℕ → Type 0)
+    → AreAnswers Has Asked Shows (answer (pos 4) (pos 2) 4 ∷ answer (pos 1) (pos 4) 7 ∷ []) → ⊥
 not_by_end Has Asked Shows answers = let rise = answers.rise 0 1 (answer (pos 4) (pos 2) 4) (omega arith) (omega arith) in cc
 
 -- two walks in one table: rows are numbered over both, and in each from 1

@@ -8,11 +8,11 @@ use Rattle.pgr_answer.specs.declared.refused.Refused.TheVariants.{ReadFailed, To
 use Rattle.pgr_answer.specs.Files.{File, Content, refusal_of, IsPossible, IsAccepted, AreAccepted, IsKnownAccepted}
 use Rattle.pgr_answer.specs.Refusals.{IsContentRefused, IsRefused, HoldsAmong, IsFirstRefusal}
 
--- a refusal is this one, or want of memory, or a failed read
+-- a refusal is this one, or out of memory, or a failed read
 abbrev pub IsThis : Refused → Refused → Type 0
 IsThis found refused = (found ≡ refused) ⊎ (found ≡ Memory) ⊎ ((role : Role) × (found ≡ ReadFailed role))
 
--- a refusal is want of memory, or a failed read
+-- a refusal is out of memory, or a failed read
 abbrev pub IsOutside : Refused → Type 0
 IsOutside found = (found ≡ Memory) ⊎ ((role : Role) × (found ≡ ReadFailed role))
 
@@ -21,7 +21,8 @@ this_from_outside found refused (inl e) = inr (inl e)
 this_from_outside found refused (inr e) = inr (inr e)
 
 -- what is so of possible bytes of a known content is so of no other verdict
-one_refusal : (content : Option (List ℕ)) (role : Role) (bytes : List ℕ) (verdict other : Option Refused) → IfSome content (λ is. bytes ≡ is) → refusal_of role bytes ≡ verdict → IsSomeAnd content (λ is. refusal_of role is ≡ other) → verdict ≡ other
+one_refusal : (content : Option (List ℕ)) (role : Role) (bytes : List ℕ) (verdict other : Option Refused) → IfSome content (λ is. bytes ≡ is) → refusal_of role bytes ≡ verdict
+    → IsSomeAnd content (λ is. refusal_of role is ≡ other) → verdict ≡ other
 one_refusal None role bytes verdict other possible is known = absurd known
 one_refusal (Some content) role bytes verdict other possible is known = sym is ∙ ap (refusal_of role) possible ∙ known
 
@@ -37,17 +38,20 @@ same_some a b e = cc
 
 module _ (known : List ℕ → Option (List ℕ)) (before after : List ℕ → ℕ) where
   -- where the known content of a file is refused, a refusal of the file is that one, or comes from outside
-  refused_once : (file : File) (found refused : Refused) → IsRefused known before after file found → IsSomeAnd (known file.name) (λ bytes. refusal_of file.role bytes ≡ Some refused) → IsThis found refused
+  refused_once : (file : File) (found refused : Refused) → IsRefused known before after file found
+      → IsSomeAnd (known file.name) (λ bytes. refusal_of file.role bytes ≡ Some refused) → IsThis found refused
   refused_once file (ReadFailed role) refused is first = inr (inr (role, refl))
   refused_once file (TooLong role) refused is first = inl (same_some (TooLong role) refused (one_refusal (known file.name) file.role is.bytes _ _ is.possible is.is_refused first))
-  refused_once file (Table role fault) refused is first = inl (same_some (Table role fault) refused (one_refusal (known file.name) file.role is.bytes _ _ is.possible is.is_refused first))
+  refused_once file (Table role fault) refused is first = inl
+      (same_some (Table role fault) refused (one_refusal (known file.name) file.role is.bytes _ _ is.possible is.is_refused first))
   refused_once file Memory refused is first = inr (inl refl)
 
   -- where the known content of a file is accepted, a refusal of the file comes from outside
   refused_outside : (file : File) (found : Refused) → IsRefused known before after file found → IsKnownAccepted known file → IsOutside found
   refused_outside file (ReadFailed role) is accepted = inr (role, refl)
   refused_outside file (TooLong role) is accepted = absurd (not_refused (TooLong role) (one_refusal (known file.name) file.role is.bytes _ _ is.possible is.is_refused accepted))
-  refused_outside file (Table role fault) is accepted = absurd (not_refused (Table role fault) (one_refusal (known file.name) file.role is.bytes _ _ is.possible is.is_refused accepted))
+  refused_outside file (Table role fault) is accepted = absurd
+      (not_refused (Table role fault) (one_refusal (known file.name) file.role is.bytes _ _ is.possible is.is_refused accepted))
   refused_outside file Memory is accepted = inl refl
 
   -- of a list of files, one is refused behind contents that are accepted, and one behind files that are known to be accepted: by where they stand
@@ -68,7 +72,8 @@ module _ (known : List ℕ → Option (List ℕ)) (before after : List ℕ → �
   first_by_fronts found refused (content ∷ contents) file back [] known_file known_back order possible accepted is known_accepted first =
       let same : content.file ≡ known_file = cc in
       let here = subst (λ (f : File). IsSomeAnd (known f.name) (λ bytes. refusal_of f.role bytes ≡ Some refused)) (sym same) first in
-      absurd (not_both refused (one_refusal (known content.file.name) content.file.role content.bytes _ _ (All-head (IsPossible known) content contents possible) (All-head IsAccepted content contents accepted) here))
+      absurd (not_both refused (one_refusal (known content.file.name) content.file.role content.bytes _ _ (All-head (IsPossible known) content contents possible)
+      (All-head IsAccepted content contents accepted) here))
   first_by_fronts found refused (content ∷ contents) file back (head ∷ front) known_file known_back order possible accepted is known_accepted first =
       let rest : map (λ content. content.file) contents ++ file ∷ back ≡ front ++ known_file ∷ known_back = cc in
       first_by_fronts found refused contents file back front known_file known_back rest
@@ -78,7 +83,8 @@ module _ (known : List ℕ → Option (List ℕ)) (before after : List ℕ → �
   pub first_among : (files : List File) (found refused : Refused) → HoldsAmong known before after files found → IsFirstRefusal known files refused → IsThis found refused
   first_among files found refused holds first =
       let order = ap (λ front. front ++ holds.file ∷ holds.place.back) holds.accepted.of_files ∙ sym holds.place.order ∙ first.place.order in
-      first_by_fronts found refused holds.contents holds.file holds.place.back first.front first.file first.place.back order holds.accepted.possible holds.accepted.accepted holds.refuses first.accepted first.refuses
+      first_by_fronts found refused holds.contents holds.file holds.place.back first.front first.file first.place.back order holds.accepted.possible holds.accepted.accepted
+      holds.refuses first.accepted first.refuses
 
   -- what all files are known to be, one of them is
   known_file : (files front : List File) (file : File) (back : List File) → files ≡ front ++ file ∷ back → All (IsKnownAccepted known) files → IsKnownAccepted known file
@@ -103,13 +109,15 @@ module _ (known : List ℕ → Option (List ℕ)) where
   none_by_front refused (content ∷ contents) [] file back order possible accepted first =
       let same : content.file ≡ file = cc in
       let here = subst (λ (f : File). IsSomeAnd (known f.name) (λ bytes. refusal_of f.role bytes ≡ Some refused)) (sym same) first in
-      not_both refused (one_refusal (known content.file.name) content.file.role content.bytes _ _ (All-head (IsPossible known) content contents possible) (All-head IsAccepted content contents accepted) here)
+      not_both refused (one_refusal (known content.file.name) content.file.role content.bytes _ _ (All-head (IsPossible known) content contents possible)
+      (All-head IsAccepted content contents accepted) here)
   none_by_front refused (content ∷ contents) (head ∷ front) file back order possible accepted first =
       let rest : map (λ content. content.file) contents ≡ front ++ file ∷ back = cc in
       none_by_front refused contents front file back rest (All-tail (IsPossible known) content contents possible) (All-tail IsAccepted content contents accepted) first
 
   pub none_first : (files : List File) (contents : List Content) (refused : Refused) → AreAccepted known files contents → IsFirstRefusal known files refused → ⊥
-  none_first files contents refused are first = none_by_front refused contents first.front first.file first.place.back (are.of_files ∙ first.place.order) are.possible are.accepted first.refuses
+  none_first files contents refused are first = none_by_front refused contents first.front first.file first.place.back
+      (are.of_files ∙ first.place.order) are.possible are.accepted first.refuses
 
 -- what an answer says that is an error made of this refusal
 module _ {X : Type 0} where
@@ -117,15 +125,17 @@ module _ {X : Type 0} where
   if_err (Ok x) found P is holds = absurd is
   if_err (Err refused) found P is holds = subst P (sym is) holds
 
-  -- the answer is this refusal, want of memory, or a failed read
-  pub errs_this : (result : Result X Refused) (found refused : Refused) → IsErrAnd result (λ e. e ≡ found) → IsThis found refused → IsErrOf result refused ⊎ IsErrOf result Memory ⊎ ((role : Role) × IsErrOf result (ReadFailed role))
+  -- the answer is this refusal, out of memory, or a failed read
+  pub errs_this : (result : Result X Refused) (found refused : Refused) → IsErrAnd result (λ e. e ≡ found) → IsThis found refused
+      → IsErrOf result refused ⊎ IsErrOf result Memory ⊎ ((role : Role) × IsErrOf result (ReadFailed role))
   errs_this (Ok x) found refused is this = absurd is
   errs_this (Err e) found refused is (inl same) = inl (ap Err (is ∙ same))
   errs_this (Err e) found refused is (inr (inl same)) = inr (inl (ap Err (is ∙ same)))
   errs_this (Err e) found refused is (inr (inr (role, same))) = inr (inr (role, ap Err (is ∙ same)))
 
-  -- the answer is want of memory, or a failed read
-  pub errs_outside : (result : Result X Refused) (found : Refused) → IsErrAnd result (λ e. e ≡ found) → IsOutside found → IsOk result ⊎ IsErrOf result Memory ⊎ ((role : Role) × IsErrOf result (ReadFailed role))
+  -- the answer is out of memory, or a failed read
+  pub errs_outside : (result : Result X Refused) (found : Refused) → IsErrAnd result (λ e. e ≡ found) → IsOutside found
+      → IsOk result ⊎ IsErrOf result Memory ⊎ ((role : Role) × IsErrOf result (ReadFailed role))
   errs_outside (Ok x) found is this = absurd is
   errs_outside (Err e) found is (inl same) = inr (inl (ap Err (is ∙ same)))
   errs_outside (Err e) found is (inr (role, same)) = inr (inr (role, ap Err (is ∙ same)))

@@ -47,10 +47,12 @@ Any-push_right P xs y p = let k = Contains-push xs y in (k.0, y, k.1, k.2, p)
 module _ {Shown : Type 0} (Has : LinkOf ℤ → Type 0) (Shows : ℤ → ℤ → Shown → Type 0) (names : List ℤ) where
   -- what is found for pairs, where one more is done
   weaker : (done : List Pair) (pair : Pair) (found : List (Found Shown)) → All (λ f. Contains done (pair_of f)) found → All (λ f. Contains (done ++ pair ∷ []) (pair_of f)) found
-  weaker done pair found asked = All-weaker (λ f. Contains done (pair_of f)) (λ f. Contains (done ++ pair ∷ []) (pair_of f)) (λ f there. Contains-append_left done (pair ∷ []) (pair_of f) there) found asked
+  weaker done pair found asked = All-weaker (λ f. Contains done (pair_of f)) (λ f. Contains (done ++ pair ∷ []) (pair_of f))
+      (λ f there. Contains-append_left done (pair ∷ []) (pair_of f) there) found asked
 
   -- something is found for one more pair
-  pub extends_some : (start end : ℕ) (kept : Shown) (old new : List (Found Shown)) → Shows (id_at names start) (id_at names end) kept → new ≡ old ++ record { start = start; end = end; kept = kept } ∷ []
+  pub extends_some : (start end : ℕ) (kept : Shown) (old new : List (Found Shown)) → Shows (id_at names start) (id_at names end) kept
+      → new ≡ old ++ record { start = start; end = end; kept = kept } ∷ []
       → Extends Has Shows names (record { end = end; start = start } ∷ []) old new
   extends_some start end kept old new shows new_is done rise (are, by_pair) =
       let pair : Pair = record { end = end; start = start } in
@@ -63,11 +65,13 @@ module _ {Shown : Type 0} (Has : LinkOf ℤ → Type 0) (Shows : ℤ → ℤ →
             (λ same. Any-push_right (λ f. pair_of f ≡ other) old this same)
             (Contains-push_cases done pair other there);
       } in
-      let rises : RisesByPair (old ++ this ∷ []) = all_pairs_push (λ f g. pair_cmp (pair_of f) (pair_of g) ≡ Less) old this by_pair (λ k d below. before_last pair_cmp done pair (pair_of (get_or old k d)) rise (are.asked k d below)) in
+      let rises : RisesByPair (old ++ this ∷ []) = all_pairs_push (λ f g. pair_cmp (pair_of f) (pair_of g) ≡ Less) old this by_pair
+      (λ k d below. before_last pair_cmp done pair (pair_of (get_or old k d)) rise (are.asked k d below)) in
       subst (λ found. AreFound Has Shows names (done ++ pair ∷ []) found × RisesByPair found) (sym new_is) (found, rises)
 
   -- nothing is found for one more pair, which has no walk
-  pub extends_none : (pair : Pair) (found : List (Found Shown)) → ((walk : List (LinkOf ℤ)) → IsWalk Has (id_at names pair.start) walk (id_at names pair.end) → ⊥) → Extends Has Shows names (pair ∷ []) found found
+  pub extends_none : (pair : Pair) (found : List (Found Shown)) → ((walk : List (LinkOf ℤ)) → IsWalk Has (id_at names pair.start) walk (id_at names pair.end) → ⊥)
+      → Extends Has Shows names (pair ∷ []) found found
   extends_none pair found none done rise (are, by_pair) = (
     record {
       asked = weaker done pair found are.asked;
@@ -85,7 +89,8 @@ module _ {Shown : Type 0} (Has : LinkOf ℤ → Type 0) (Shows : ℤ → ℤ →
   extends_nothing found done rise base = subst (λ pairs. AreFound Has Shows names pairs found × RisesByPair found) (sym (append-nil done)) base
 
   -- more pairs, and then others
-  pub extends_both : (more others : List Pair) (old middle new : List (Found Shown)) → Extends Has Shows names more old middle → Extends Has Shows names others middle new → Extends Has Shows names (more ++ others) old new
+  pub extends_both : (more others : List Pair) (old middle new : List (Found Shown)) → Extends Has Shows names more old middle → Extends Has Shows names others middle new
+      → Extends Has Shows names (more ++ others) old new
   extends_both more others old middle new first second done rise base =
       let order = append_assoc done more others in
       let rises : IsStrictlyRising pair_cmp ((done ++ more) ++ others) = subst (IsStrictlyRising pair_cmp) (sym order) rise in
@@ -100,10 +105,16 @@ module _ {Shown : Type 0} (Has : LinkOf ℤ → Type 0) (Shows : ℤ → ℤ →
 
   -- nothing is found for no pairs
   pub none_found : AreFound Has Shows names [] []
-  none_found = record { asked = All-nil (λ f. Contains [] (pair_of f)); shows = All-nil (λ f. Shows (id_at names f.start) (id_at names f.end) f.kept); every = λ pair walk there is_walk. absurd (omega (arith, there.1)) }
+  none_found = record {
+    asked = All-nil (λ f. Contains [] (pair_of f));
+    shows = All-nil
+        (λ f. Shows (id_at names f.start) (id_at names f.end) f.kept);
+    every = λ pair walk there is_walk. absurd (omega (arith, there.1));
+  }
 
   -- what is found, in another order
-  pub found_moved : (pairs : List Pair) (found sorted : List (Found Shown)) → IsPermutation found sorted → AreFound Has Shows names pairs found → AreFound Has Shows names pairs sorted
+  pub found_moved : (pairs : List Pair) (found sorted : List (Found Shown)) → IsPermutation found sorted → AreFound Has Shows names pairs found
+      → AreFound Has Shows names pairs sorted
   found_moved pairs found sorted moved are = record {
     asked = All-permutation (λ f. Contains pairs (pair_of f)) found sorted moved are.asked;
     shows = All-permutation (λ f. Shows (id_at names f.start) (id_at names f.end) f.kept) found sorted moved are.shows;
@@ -144,13 +155,16 @@ module _ {Shown : Type 0} where
   -- what rises by its pairs rises by start and then by end once it is sorted so
   pub found_rises : (found sorted : List (Found Shown)) → RisesByPair found → IsPermutation found sorted → IsSorted found_cmp sorted → IsStrictlyRising found_cmp sorted
   found_rises found sorted by_pair moved in_order i j d before inside =
-      let distinct : IsDistinct (eq_by_cmp found_cmp) found = IsDistinct-from_apart (eq_by_cmp found_cmp) found (λ i j d before inside. apart (get_or found i d) (get_or found j d) (by_pair i j d before inside)) in
+      let distinct : IsDistinct (eq_by_cmp found_cmp) found = IsDistinct-from_apart (eq_by_cmp found_cmp) found
+      (λ i j d before inside. apart (get_or found i d) (get_or found j d) (by_pair i j d before inside)) in
       let still = IsDistinct-IsPermutation (eq_by_cmp found_cmp) (eq_by_cmp_equiv found_total).symm found sorted moved distinct in
-      less_by_rest _ (found_cmp (get_or sorted j d) (get_or sorted i d)) (found_total.antisymm (get_or sorted i d) (get_or sorted j d)) (apart_from_distinct (eq_by_cmp found_cmp) sorted i j d still before inside)
+      less_by_rest _ (found_cmp (get_or sorted j d) (get_or sorted i d)) (found_total.antisymm (get_or sorted i d) (get_or sorted j d))
+      (apart_from_distinct (eq_by_cmp found_cmp) sorted i j d still before inside)
       (sorted_far (λ x y. is_lt (found_cmp x y)) (ranks_by found_total (λ x. x)) sorted in_order i j d (omega arith) inside)
 
 -- of pairs with one end, each is that end with its start
-pub one_end_pair : (group : List Pair) → HaveEnd group → (i : ℕ) (d : Pair) → i < length group → ◌≡◌ {A = Pair} (record { end = (get_or group 0 d).end; start = (get_or group i d).start }) (get_or group i d)
+pub one_end_pair : (group : List Pair) → HaveEnd group → (i : ℕ) (d : Pair) → i < length group
+    → ◌≡◌ {A = Pair} (record { end = (get_or group 0 d).end; start = (get_or group i d).start }) (get_or group i d)
 one_end_pair group one_end zero d inside = refl
 one_end_pair group one_end (suc i) d inside = same_pair _ (get_or group (suc i) d) refl (one_end 0 (suc i) d (omega arith) inside)
 

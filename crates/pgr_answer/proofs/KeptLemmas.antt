@@ -53,7 +53,8 @@ route_between links names size ins network s t route differ by_numbers by_ids =
     let is_walk = IsWalk-from_one (IsLinkOf size ins) s t route by_numbers.belongs in
     record {
       least = by_ids;
-      numbered = All-walk (IsLinkOf size ins) (IsNumbered names) (λ link has. All-contains (IsNumbered names) network.numbers link network.numbered.ends ((network.exactly link).0 has)) s route t is_walk;
+      numbered = All-walk (IsLinkOf size ins) (IsNumbered names)
+          (λ link has. All-contains (IsNumbered names) network.numbers link network.numbered.ends ((network.exactly link).0 has)) s route t is_walk;
       some = some_link (IsLinkOf size ins) s t route differ is_walk;
     }
 

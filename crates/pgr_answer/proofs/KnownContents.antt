@@ -33,16 +33,21 @@ module _ (known : List ℕ → Option (List ℕ)) where
   one_by_files (a ∷ contents) (b ∷ others) files all possible also =
       let same : a.file ≡ b.file = cc in
       let rest : map (λ content. content.file) contents ≡ map (λ content. content.file) others = cc in
-      let first = same_content known a b same (All-head (λ file. IsSome (known file.name)) a.file _ all) (All-head (IsPossible known) a contents possible) (All-head (IsPossible known) b others also) in
-      let later = one_by_files contents others rest (All-tail (λ file. IsSome (known file.name)) a.file _ all) (All-tail (IsPossible known) a contents possible) (All-tail (IsPossible known) b others also) in
+      let first = same_content known a b same (All-head (λ file. IsSome (known file.name)) a.file _ all) (All-head (IsPossible known) a contents possible)
+      (All-head (IsPossible known) b others also) in
+      let later = one_by_files contents others rest (All-tail (λ file. IsSome (known file.name)) a.file _ all) (All-tail (IsPossible known) a contents possible)
+      (All-tail (IsPossible known) b others also) in
       λ i. first i ∷ later i
 
   -- known contents of files are one list
-  pub one_are_contents : (files : List File) (contents others : List Content) → All (λ file. IsSome (known file.name)) files → AreAccepted known files contents → AreAccepted known files others → contents ≡ others
-  one_are_contents files contents others all are also = one_by_files contents others (are.of_files ∙ sym also.of_files) (subst (All (λ file. IsSome (known file.name))) (sym are.of_files) all) are.possible also.possible
+  pub one_are_contents : (files : List File) (contents others : List Content) → All (λ file. IsSome (known file.name)) files → AreAccepted known files contents
+      → AreAccepted known files others → contents ≡ others
+  one_are_contents files contents others all are also = one_by_files contents others (are.of_files ∙ sym also.of_files)
+      (subst (All (λ file. IsSome (known file.name))) (sym are.of_files) all) are.possible also.possible
 
 -- the rows that answer a command over known contents are one table
-pub one_answers : (command : Command) (known : List ℕ → Option (List ℕ)) (rows other : Rows) → All (λ file. IsSome (known file.name)) (files_of command) → AnswersCommand command known rows → AnswersCommand command known other → rows ≡ other
+pub one_answers : (command : Command) (known : List ℕ → Option (List ℕ)) (rows other : Rows) → All (λ file. IsSome (known file.name)) (files_of command)
+    → AnswersCommand command known rows → AnswersCommand command known other → rows ≡ other
 one_answers command known rows other all answers also =
     let same = one_are_contents known (files_of command) answers.contents also.contents all answers.accepted also.accepted in
     one_is_allowed command (tables_of answers.contents) rows other answers.allowed (subst (λ contents. IsAllowed command (tables_of contents) other) (sym same) also.allowed)

@@ -25,7 +25,8 @@ pub precedes_cost : (walk other : List (LinkOf ℤ)) → Precedes int_cmp walk o
 precedes_cost walk other precedes = at_most (cost_of walk) (cost_of other) (then_less (nat_cmp (cost_of walk) (cost_of other)) _ precedes)
 
 -- no walk between two vertices costs less than the least one
-least_costs : (Has : LinkOf ℤ → Type 0) (s t : ℤ) (walk : List (LinkOf ℤ)) → IsLeastBetween Has s t walk → (other : List (LinkOf ℤ)) → IsWalk Has s other t → cost_of walk ≤ cost_of other
+least_costs : (Has : LinkOf ℤ → Type 0) (s t : ℤ) (walk : List (LinkOf ℤ)) → IsLeastBetween Has s t walk → (other : List (LinkOf ℤ)) → IsWalk Has s other t
+    → cost_of walk ≤ cost_of other
 least_costs Has s t walk least other is_walk = elim (cases_lt (cost_of other) (cost_of walk)) [
   | inl less ↦ precedes_cost walk other (least.precedes other is_walk (λ same. absurd (omega (arith, less, ap cost_of same))))
   | inr no_less ↦ no_less

@@ -5,7 +5,7 @@ pub mod FoundLemmas
 pub mod PathTables
 pub mod AnswersAlong
 pub mod TablesFound
-pub mod RisingLists
+pub mod SameElements
 pub mod OneTable
 pub mod LeastCosts
 pub mod FirstRefusals

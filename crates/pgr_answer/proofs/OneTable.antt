@@ -22,7 +22,7 @@ use Rattle.pgr_answer.specs.CostTables.{IsCostTable, cost_row}
 use Rattle.pgr_answer.specs.Paths.{IsLeastBetween, IsPathTable, path_table}
 use Rattle.pgr_answer.specs.declared.tables.Tables.{Tables}
 use Rattle.pgr_answer.specs.Allowed.{IsAllowed, IsAllowedFor}
-use Rattle.pgr_answer.proofs.RisingLists.{rising_is_one}
+use Rattle.pgr_answer.proofs.SameElements.{rising_is_one}
 
 -- the order of answers is total
 answer_total : {Shown : Type 0} → IsTotalOrder (answer_cmp {Shown = Shown})
@@ -36,7 +36,8 @@ module _ {Shown : Type 0} (Has : LinkOf ℤ → Type 0) (Asked : ℤ → ℤ →
     (walk_of : (s t : ℤ) (shown : Shown) → Shows s t shown → (walk : List (LinkOf ℤ)) × IsWalk Has s walk t)
     (one : (s t : ℤ) (shown other : Shown) → Shows s t shown → Shows s t other → shown ≡ other) where
   -- the answer to a pair that another one answers too is that one
-  same_of_pair : (answers : List (Answer Shown)) → AreAnswers Has Asked Shows answers → (a : Answer Shown) → Shows a.start a.end a.shown → Any (λ answer. (answer.start ≡ a.start) × (answer.end ≡ a.end)) answers → Contains answers a
+  same_of_pair : (answers : List (Answer Shown)) → AreAnswers Has Asked Shows answers → (a : Answer Shown) → Shows a.start a.end a.shown
+      → Any (λ answer. (answer.start ≡ a.start) × (answer.end ≡ a.end)) answers → Contains answers a
   same_of_pair answers are a shows (k, b, within, is, ends) =
       let shows_b = All-contains (λ answer. Shows answer.start answer.end answer.shown) answers b are.shows (k, within, is) in
       let at_start = subst (λ s. Shows s b.end b.shown) ends.0 shows_b in
@@ -45,7 +46,8 @@ module _ {Shown : Type 0} (Has : LinkOf ℤ → Type 0) (Asked : ℤ → ℤ →
       subst (Contains answers) same (k, within, is)
 
   -- what is an answer of the one list is one of the other
-  stands : (answers others : List (Answer Shown)) → AreAnswers Has Asked Shows answers → AreAnswers Has Asked Shows others → (a : Answer Shown) → Contains answers a → Contains others a
+  stands : (answers others : List (Answer Shown)) → AreAnswers Has Asked Shows answers → AreAnswers Has Asked Shows others → (a : Answer Shown) → Contains answers a
+      → Contains others a
   stands answers others are also a among =
       let asked = All-contains (λ answer. Asked answer.start answer.end) answers a are.asked among in
       let answerable = All-contains (λ answer. IsAnswerable Has answer.start answer.end) answers a are.answerable among in
@@ -55,7 +57,8 @@ module _ {Shown : Type 0} (Has : LinkOf ℤ → Type 0) (Asked : ℤ → ℤ →
 
   -- the answers are one list
   answers_are_one : (answers others : List (Answer Shown)) → AreAnswers Has Asked Shows answers → AreAnswers Has Asked Shows others → answers ≡ others
-  answers_are_one answers others are also = rising_is_one answer_cmp answer_total answers others are.rise also.rise (stands answers others are also) (stands others answers also are)
+  answers_are_one answers others are also = rising_is_one answer_cmp answer_total answers others are.rise also.rise (stands answers others are also)
+      (stands others answers also are)
 
 -- two least costs are the same
 one_least_cost : (Has : LinkOf ℤ → Type 0) (s t : ℤ) (cost other : ℕ) → IsLeastCost Has s t cost → IsLeastCost Has s t other → cost ≡ other
@@ -65,7 +68,8 @@ module _ (Has : LinkOf ℤ → Type 0) (Asked : ℤ → ℤ → Type 0) where
   -- one table of paths
   one_path_table : (rows other : Rows) → IsPathTable Has Asked rows → IsPathTable Has Asked other → rows ≡ other
   one_path_table rows other (answers, are, rows_are) (others, also, other_are) =
-      let same = answers_are_one Has Asked (IsLeastBetween Has) (λ s t walk least. (walk, least.belongs)) (λ s t. least_is_one int_cmp int_cmp_total int_tie (λ walk. IsWalk Has s walk t)) answers others are also in
+      let same = answers_are_one Has Asked (IsLeastBetween Has) (λ s t walk least. (walk, least.belongs))
+      (λ s t. least_is_one int_cmp int_cmp_total int_tie (λ walk. IsWalk Has s walk t)) answers others are also in
       rows_are ∙ ap (λ a. Paths (path_table a)) same ∙ sym other_are
 
   -- one table of costs

@@ -30,8 +30,10 @@ gains_pair start end old new differ new_is =
     let this : Pair = record { end = end; start = start } in
     record {
       exactly = λ pair. (
-        λ h. ⊎_elim inl (λ e. inr (ap (λ (p : Pair). p.start) (sym e), ap (λ (p : Pair). p.end) (sym e), subst (λ (p : Pair). p.start ≢ p.end) e differ)) (Contains-push_cases old this pair (subst (λ pairs. Contains pairs pair) new_is h)),
-        λ h. subst (λ pairs. Contains pairs pair) (sym new_is) (⊎_elim (Contains-append_left old (this ∷ []) pair) (λ k. subst (Contains (old ++ this ∷ [])) (same_pair this pair (sym k.0) (sym k.1)) (Contains-push old this)) h),
+        λ h. ⊎_elim inl (λ e. inr (ap (λ (p : Pair). p.start) (sym e), ap (λ (p : Pair). p.end) (sym e), subst (λ (p : Pair). p.start ≢ p.end) e differ))
+            (Contains-push_cases old this pair (subst (λ pairs. Contains pairs pair) new_is h)),
+        λ h. subst (λ pairs. Contains pairs pair) (sym new_is)
+            (⊎_elim (Contains-append_left old (this ∷ []) pair) (λ k. subst (Contains (old ++ this ∷ [])) (same_pair this pair (sym k.0) (sym k.1)) (Contains-push old this)) h),
       );
     }
 
@@ -44,7 +46,8 @@ pub gains_not : (start end : ℕ) (pairs : List Pair) → start ≡ end → Gain
 gains_not start end pairs same = gains_nothing (IsThisPair start end) pairs (λ pair this. this.2 (this.0 ∙ same ∙ sym this.1))
 
 -- two steps add what either of them adds
-pub gains_both : (First Second Both : Pair → Type 0) (old middle new : List Pair) → Gains First old middle → Gains Second middle new → ((pair : Pair) → Both pair ↔ (First pair ⊎ Second pair)) → Gains Both old new
+pub gains_both : (First Second Both : Pair → Type 0) (old middle new : List Pair) → Gains First old middle → Gains Second middle new
+    → ((pair : Pair) → Both pair ↔ (First pair ⊎ Second pair)) → Gains Both old new
 gains_both First Second Both old middle new first second either =
     record {
       exactly = λ pair. let a = first.exactly pair in let b = second.exactly pair in let k = either pair in (
@@ -85,7 +88,8 @@ gains_end starts ends i end old middle new inside end_is so_far more =
     ))
 
 -- one id more
-pub numbers_more : (names ids : List ℤ) (i : ℕ) (d : ℤ) (old new : List ℕ) → i < length ids → AreNumbersOf names (take i ids) old → GainsNumber names (get_or ids i d) old new → AreNumbersOf names (take (i + 1) ids) new
+pub numbers_more : (names ids : List ℤ) (i : ℕ) (d : ℤ) (old new : List ℕ) → i < length ids → AreNumbersOf names (take i ids) old → GainsNumber names (get_or ids i d) old new
+    → AreNumbersOf names (take (i + 1) ids) new
 numbers_more names ids i d old new inside so_far more n =
     let k = take_cases ids i d (id_at names n) inside in
     let m = more n in
@@ -108,8 +112,10 @@ gains_row names rows i row old middle new here so_far more =
     gains_both _ _ _ old middle new so_far more (λ pair.
     let this : PairRow = record { source = id_at names pair.start; target = id_at names pair.end } in
     let k = take_cases rows i row this (slice_get_within rows i row here) in (
-      λ h. ⊎_elim (λ l. inl (h.0, h.1, h.2, l)) (λ l. let same : this ≡ row = l ∙ row_is in inr (h.0, h.1, h.2, ap (λ (r : PairRow). r.source) same, ap (λ (r : PairRow). r.target) same)) (k.0 h.3),
-      ⊎_elim (λ h. (h.0, h.1, h.2, k.1 (inl h.3))) (λ h. let same : this ≡ row = (λ j. record { source = h.3 j; target = h.4 j }) in (h.0, h.1, h.2, k.1 (inr (same ∙ sym row_is)))),
+      λ h. ⊎_elim (λ l. inl (h.0, h.1, h.2, l)) (λ l. let same : this ≡ row = l
+          ∙ row_is in inr (h.0, h.1, h.2, ap (λ (r : PairRow). r.source) same, ap (λ (r : PairRow). r.target) same)) (k.0 h.3),
+      ⊎_elim (λ h. (h.0, h.1, h.2, k.1 (inl h.3))) (λ h. let same : this ≡ row = (λ j. record { source = h.3 j; target = h.4 j }) in
+          (h.0, h.1, h.2, k.1 (inr (same ∙ sym row_is)))),
     ))
 
 module _ (names : List ℤ) (one : (m n : ℕ) → m < length names → n < length names → id_at names m ≡ id_at names n → m ≡ n) where
@@ -117,7 +123,8 @@ module _ (names : List ℤ) (one : (m n : ℕ) → m < length names → n < leng
   pub gains_number : (id : ℤ) (number : ℕ) (old new : List ℕ) → number < length names → id_at names number ≡ id → new ≡ old ++ number ∷ [] → GainsNumber names id old new
   gains_number id number old new below at new_is n = (
     λ h. ⊎_elim inl (λ e. inr (subst (λ m. m < length names) e below, ap (id_at names) (sym e) ∙ at)) (Contains-push_cases old number n (subst (λ ns. Contains ns n) new_is h)),
-    λ h. subst (λ ns. Contains ns n) (sym new_is) (⊎_elim (Contains-append_left old (number ∷ []) n) (λ l. subst (Contains (old ++ number ∷ [])) (one number n below l.0 (at ∙ sym l.1)) (Contains-push old number)) h),
+    λ h. subst (λ ns. Contains ns n) (sym new_is) (⊎_elim (Contains-append_left old (number ∷ []) n)
+        (λ l. subst (Contains (old ++ number ∷ [])) (one number n below l.0 (at ∙ sym l.1)) (Contains-push old number)) h),
   )
 
   -- an id that is no name has no number
@@ -129,14 +136,22 @@ module _ (names : List ℤ) (one : (m n : ℕ) → m < length names → n < leng
       → Gains (IsThisPair start end) old new → Gains (IsPairOfIds names start_id end_id) old new
   gains_ids start end start_id end_id old new start_below start_at end_below end_at gains =
       gains_same _ _ old new gains (λ pair. (
-        λ h. (subst (λ m. m < length names) (sym h.0) start_below, subst (λ m. m < length names) (sym h.1) end_below, h.2, ap (id_at names) h.0 ∙ start_at, ap (id_at names) h.1 ∙ end_at),
+        λ h. (
+          subst (λ m. m < length names) (sym h.0) start_below,
+          subst (λ m. m < length names) (sym h.1) end_below,
+          h.2,
+          ap (id_at names) h.0
+              ∙ start_at,
+          ap (id_at names) h.1 ∙ end_at,
+        ),
         λ h. (one pair.start start h.0 start_below (h.3 ∙ sym start_at), one pair.end end h.1 end_below (h.4 ∙ sym end_at), h.2),
       ))
 
   -- no pair is added where one of the ids is no name
   pub gains_no_ids : (start_id end_id : ℤ) (pairs : List Pair) → (Contains names start_id → Contains names end_id → ⊥) → Gains (IsPairOfIds names start_id end_id) pairs pairs
   gains_no_ids start_id end_id pairs absent =
-      gains_nothing _ pairs (λ pair h. absent (subst (Contains names) h.3 (Contains-get_or names pair.start (pos 0) h.0)) (subst (Contains names) h.4 (Contains-get_or names pair.end (pos 0) h.1)))
+      gains_nothing _ pairs (λ pair h. absent (subst (Contains names) h.3 (Contains-get_or names pair.start (pos 0) h.0))
+      (subst (Contains names) h.4 (Contains-get_or names pair.end (pos 0) h.1)))
 
 -- the pairs of the lists and those of the rows are the pairs that are asked for
 pub gained_is_asked : (names : List ℤ) (starts ends : List ℤ) (rows : List PairRow) (first last : List ℕ) (old middle new : List Pair)
@@ -192,10 +207,13 @@ module _ (same : Pair → Pair → Bool) (ties : (p q : Pair) → same p q ≡ e
   }
 
   -- a sort and a `dedup` keep the pairs
-  pub pairs_kept : (P : Pair → Type 0) (pairs sorted last : List Pair) → ((pair : Pair) → Contains pairs pair ↔ P pair) → IsPermutation pairs sorted → last ≡ dedup same sorted → (pair : Pair) → Contains last pair ↔ P pair
+  pub pairs_kept : (P : Pair → Type 0) (pairs sorted last : List Pair) → ((pair : Pair) → Contains pairs pair ↔ P pair) → IsPermutation pairs sorted → last ≡ dedup same sorted
+      → (pair : Pair) → Contains last pair ↔ P pair
   pairs_kept P pairs sorted last are moved last_is pair = (
-    λ h. (are pair).0 (Contains-permutation sorted pairs pair (IsPermutation-sym pairs sorted moved) (Contains-from_dedup same sorted pair (subst (λ ps. Contains ps pair) last_is h))),
-    λ h. subst (λ ps. Contains ps pair) (sym last_is) (Contains-dedup same_equivalence same_is_equality sorted pair (Contains-permutation pairs sorted pair moved ((are pair).1 h))),
+    λ h. (are pair).0 (Contains-permutation sorted pairs pair (IsPermutation-sym pairs sorted moved)
+        (Contains-from_dedup same sorted pair (subst (λ ps. Contains ps pair) last_is h))),
+    λ h. subst (λ ps. Contains ps pair) (sym last_is) (Contains-dedup same_equivalence same_is_equality sorted pair
+        (Contains-permutation pairs sorted pair moved ((are pair).1 h))),
   )
 
   -- and leave them rising

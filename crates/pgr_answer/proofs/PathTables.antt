@@ -30,17 +30,21 @@ length-path_rows start end n [] = refl
 length-path_rows start end n (step ∷ steps) = ap (λ (m : ℕ). suc m) (length-path_rows start end (n + 1) steps)
 
 -- the rows of one more step
-pub path_rows-push : (start end : ℤ) (n : ℕ) (steps : List Step) (step : Step) → path_rows start end n (steps ++ step ∷ []) ≡ path_rows start end n steps ++ path_row start end (n + length steps) step ∷ []
+pub path_rows-push : (start end : ℤ) (n : ℕ) (steps : List Step) (step : Step)
+    → path_rows start end n (steps ++ step ∷ []) ≡ path_rows start end n steps ++ path_row start end (n + length steps) step ∷ []
 path_rows-push start end n [] step = ap (λ m. path_row start end m step ∷ []) (omega arith)
 path_rows-push start end n (first ∷ steps) step =
-    ap (λ rows. path_row start end n first ∷ rows) (path_rows-push start end (n + 1) steps step ∙ ap (λ m. path_rows start end (n + 1) steps ++ path_row start end m step ∷ []) (omega arith))
+    ap (λ rows. path_row start end n first ∷ rows) (path_rows-push start end (n + 1) steps step
+    ∙ ap (λ m. path_rows start end (n + 1) steps ++ path_row start end m step ∷ []) (omega arith))
 
 -- rows, and behind them the numbered rows of a path
 abbrev pub with_path : List PathRow → ℤ → ℤ → List Step → List PathRow
 with_path rows start end steps = rows ++ numbered_from (length rows + 1) (path_rows start end 1 steps)
 
 -- the rows with those of a path of one more step
-pub with_path-push : (rows : List PathRow) (start end : ℤ) (steps : List Step) (step : Step) → with_path rows start end (steps ++ step ∷ []) ≡ with_path rows start end steps ++ record (path_row start end (length steps + 1) step) { seq = length (with_path rows start end steps) + 1 } ∷ []
+pub with_path-push : (rows : List PathRow) (start end : ℤ) (steps : List Step) (step : Step)
+    → with_path rows start end (steps ++ step ∷ []) ≡ with_path rows start end steps ++ record
+    (path_row start end (length steps + 1) step) { seq = length (with_path rows start end steps) + 1 } ∷ []
 with_path-push rows start end steps step =
     let path = path_rows start end 1 steps in
     let numbered = numbered_from (length rows + 1) path in
@@ -73,11 +77,13 @@ path_more before start end steps i d old new len row within so_far len_is is_row
     ∙ ap (with_path before start end) (sym (take_more steps i d within))
 
 -- all steps of a path stand behind the rows
-pub path_all : (before : List PathRow) (start end : ℤ) (steps : List Step) (i : ℕ) (rows : List PathRow) → length steps ≤ i → rows ≡ with_path before start end (take i steps) → rows ≡ with_path before start end steps
+pub path_all : (before : List PathRow) (start end : ℤ) (steps : List Step) (i : ℕ) (rows : List PathRow) → length steps ≤ i → rows ≡ with_path before start end (take i steps)
+    → rows ≡ with_path before start end steps
 path_all before start end steps i rows all is = is ∙ ap (with_path before start end) (take_all i steps all)
 
 -- the table with the path of one more walk behind the others
-path_table-push : (answers : List (Answer (List (LinkOf ℤ)))) (answer : Answer (List (LinkOf ℤ))) → path_table (answers ++ answer ∷ []) ≡ with_path (path_table answers) answer.start answer.end (steps_of answer.shown)
+path_table-push : (answers : List (Answer (List (LinkOf ℤ)))) (answer : Answer (List (LinkOf ℤ)))
+    → path_table (answers ++ answer ∷ []) ≡ with_path (path_table answers) answer.start answer.end (steps_of answer.shown)
 path_table-push answers answer =
     let rows = flat_map rows_of_walk answers in
     let path = rows_of_walk answer in
@@ -109,5 +115,6 @@ routes_more names found i this start end steps old new within is start_is end_is
     ∙ ap (λ fs. path_table (map answer fs)) (sym longer)
 
 -- the rows are those of all routes
-pub routes_all : (names : List ℤ) (found : List (Found (List (LinkOf ℕ)))) (i : ℕ) (rows : List PathRow) → length found ≤ i → rows ≡ path_table (walks_found names (take i found)) → rows ≡ path_table (walks_found names found)
+pub routes_all : (names : List ℤ) (found : List (Found (List (LinkOf ℕ)))) (i : ℕ) (rows : List PathRow) → length found ≤ i
+    → rows ≡ path_table (walks_found names (take i found)) → rows ≡ path_table (walks_found names found)
 routes_all names found i rows past is = is ∙ ap (λ fs. path_table (walks_found names fs)) (take_all i found past)

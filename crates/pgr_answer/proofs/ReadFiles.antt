@@ -42,9 +42,11 @@ module _ (known : List ℕ → Option (List ℕ)) where
   accepted_none = record { of_files = refl; possible = All-nil (IsPossible known); accepted = All-nil IsAccepted }
 
   -- contents of files, and of those behind them
-  accepted_both : (files more : List File) (contents others : List Content) → AreAccepted known files contents → AreAccepted known more others → AreAccepted known (files ++ more) (contents ++ others)
+  accepted_both : (files more : List File) (contents others : List Content) → AreAccepted known files contents → AreAccepted known more others
+      → AreAccepted known (files ++ more) (contents ++ others)
   accepted_both files more contents others are also = record {
-    of_files = map-append (λ (content : Content). content.file) contents others ∙ ap (λ fs. fs ++ map (λ content. content.file) others) are.of_files ∙ ap (λ fs. files ++ fs) also.of_files;
+    of_files = map-append (λ (content : Content). content.file) contents others ∙ ap (λ fs. fs ++ map (λ content. content.file) others) are.of_files
+        ∙ ap (λ fs. files ++ fs) also.of_files;
     possible = All-append (IsPossible known) contents others are.possible also.possible;
     accepted = All-append IsAccepted contents others are.accepted also.accepted;
   }
@@ -90,11 +92,13 @@ module _ (known : List ℕ → Option (List ℕ)) where
   read_of file bytes seen old new same possible short (place, good, is_new) = read_one file bytes place old new possible short (ap (judged_as file.role) (sym same) ∙ good) is_new
 
   -- a content with a fault is refused by it
-  pub refused_fault : (file : File) (bytes : List ℕ) (fault : TableFault) → IfSome (known file.name) (λ content. bytes ≡ content) → length bytes ≤ most_bytes → judged_as file.role bytes ≡ Err fault → IsContentRefused known file (Table file.role fault)
+  pub refused_fault : (file : File) (bytes : List ℕ) (fault : TableFault) → IfSome (known file.name) (λ content. bytes ≡ content) → length bytes ≤ most_bytes
+      → judged_as file.role bytes ≡ Err fault → IsContentRefused known file (Table file.role fault)
   refused_fault file bytes fault possible short bad = record { bytes = bytes; possible = possible; is_refused = refused_short file.role bytes fault short bad }
 
   -- where a known content is too long, there is one that is refused so
-  refused_too_long : (file : File) (content : Option (List ℕ)) → known file.name ≡ content → IfSome content (λ bytes. most_bytes < length bytes) → IsContentRefused known file (TooLong file.role)
+  refused_too_long : (file : File) (content : Option (List ℕ)) → known file.name ≡ content → IfSome content (λ bytes. most_bytes < length bytes)
+      → IsContentRefused known file (TooLong file.role)
   refused_too_long file None unknown long = long_bytes most_bytes refl where
     long_bytes : (most : ℕ) → most ≡ most_bytes → IsContentRefused known file (TooLong file.role)
     long_bytes most same =
@@ -136,7 +140,8 @@ module _ (known : List ℕ → Option (List ℕ)) where
     holds_one file found is = record { front = []; file = file; place = record { back = []; order = refl }; contents = []; accepted = accepted_none; refuses = is }
 
   -- what holds of a refusal in the second of two calls holds in both together
-  refused_later : (before between after : List ℕ → ℕ) (file : File) (found : Refused) → NoneFell before between → IsRefused known between after file found → IsRefused known before after file found
+  refused_later : (before between after : List ℕ → ℕ) (file : File) (found : Refused) → NoneFell before between → IsRefused known between after file found
+      → IsRefused known before after file found
   refused_later before between after file (ReadFailed role) fell is = (is.0, let low = fell file.name in let risen = is.1 in omega arith)
   refused_later before between after file (TooLong role) fell is = is
   refused_later before between after file (Table role fault) fell is = is
@@ -153,7 +158,8 @@ module _ (known : List ℕ → Option (List ℕ)) where
     file = holds.file;
     place = record {
       back = holds.place.back ++ back;
-      order = ap (λ fs. files ++ (fs ++ back)) holds.place.order ∙ ap (λ fs. files ++ fs) (append_assoc holds.front (holds.file ∷ holds.place.back) back) ∙ sym (append_assoc files holds.front (holds.file ∷ (holds.place.back ++ back)));
+      order = ap (λ fs. files ++ (fs ++ back)) holds.place.order ∙ ap (λ fs. files ++ fs) (append_assoc holds.front (holds.file ∷ holds.place.back) back)
+          ∙ sym (append_assoc files holds.front (holds.file ∷ (holds.place.back ++ back)));
     };
     contents = read.contents ++ holds.contents;
     accepted = accepted_both files holds.front read.contents holds.contents read.accepted holds.accepted;
@@ -177,7 +183,8 @@ module _ (command : Command) (given : List Role) (i : ℕ) (d : Role) (inside : 
       ∙ ap (λ fs. flat_map (files_with command) (take i given) ++ fs) (append-nil (files_with command (get_or given i d)))
 
   -- all files are those of the roles so far, of the next one, and of those behind it
-  pub files_split : flat_map (files_with command) (take i given) ++ (files_with command (get_or given i d) ++ flat_map (files_with command) (drop (i + 1) given)) ≡ flat_map (files_with command) given
+  pub files_split : flat_map (files_with command) (take i given) ++ (files_with command (get_or given i d) ++ flat_map (files_with command) (drop (i + 1) given)) ≡ flat_map
+      (files_with command) given
   files_split =
       sym (append_assoc (flat_map (files_with command) (take i given)) (files_with command (get_or given i d)) (flat_map (files_with command) (drop (i + 1) given)))
       ∙ ap (λ fs. fs ++ flat_map (files_with command) (drop (i + 1) given)) (sym files_more)

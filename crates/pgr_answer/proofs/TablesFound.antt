@@ -60,21 +60,26 @@ module _ (names : List ℤ) (Asked : ℤ → ℤ → Type 0) (pairs : List Pair)
       differ = λ same. is.2 (one pair.start pair.end is.0 is.1 same);
     }
 
-    module _ {Shown : Type 0} (Shows : ℤ → ℤ → Shown → Type 0) (found : List (Found Shown)) (are : AreFound (Contains links) Shows names pairs found) (rise : IsStrictlyRising found_cmp found) where
+    module _ {Shown : Type 0} (Shows : ℤ → ℤ → Shown → Type 0) (found : List (Found Shown)) (are : AreFound (Contains links) Shows names pairs found)
+        (rise : IsStrictlyRising found_cmp found) where
       -- what holds of each numbered pair of what is found
-      each : (P : ℤ → ℤ → Type 0) → ((pair : Pair) → IsNumberedPair names Asked pair → P (id_at names pair.start) (id_at names pair.end)) → All (λ answer. P answer.start answer.end) (map (answer_of names) found)
+      each : (P : ℤ → ℤ → Type 0) → ((pair : Pair) → IsNumberedPair names Asked pair → P (id_at names pair.start) (id_at names pair.end))
+          → All (λ answer. P answer.start answer.end) (map (answer_of names) found)
       each P holds = All-map (λ (answer : Answer Shown). P answer.start answer.end) (answer_of names) found
-          (All-weaker (λ f. Contains pairs (pair_of f)) (λ f. P (id_at names f.start) (id_at names f.end)) (λ f there. holds (pair_of f) ((are_pairs (pair_of f)).0 there)) found are.asked)
+          (All-weaker (λ f. Contains pairs (pair_of f)) (λ f. P (id_at names f.start) (id_at names f.end))
+          (λ f there. holds (pair_of f) ((are_pairs (pair_of f)).0 there)) found are.asked)
 
       -- a pair of ids that is asked for, can be answered and has a walk has an answer
-      some : (s t : ℤ) (walk : List (LinkOf ℤ)) → Asked s t → IsAnswerable (Contains links) s t → IsWalk (Contains links) s walk t → Any (λ answer. (answer.start ≡ s) × (answer.end ≡ t)) (map (answer_of names) found)
+      some : (s t : ℤ) (walk : List (LinkOf ℤ)) → Asked s t → IsAnswerable (Contains links) s t → IsWalk (Contains links) s walk t
+          → Any (λ answer. (answer.start ≡ s) × (answer.end ≡ t)) (map (answer_of names) found)
       some s t walk asked answerable is_walk =
           let m = number s ((are_ends.ends s).1 answerable.start_is_vertex) in
           let n = number t ((are_ends.ends t).1 answerable.end_is_vertex) in
           let pair : Pair = record { end = n.0; start = m.0 } in
           let differ : m.0 ≢ n.0 = λ same. answerable.differ (sym m.2 ∙ ap (id_at names) same ∙ n.2) in
           let here : Asked (id_at names m.0) (id_at names n.0) = subst (λ a. Asked a (id_at names n.0)) (sym m.2) (subst (λ b. Asked s b) (sym n.2) asked) in
-          let along : IsWalk (Contains links) (id_at names m.0) walk (id_at names n.0) = subst (λ a. IsWalk (Contains links) a walk (id_at names n.0)) (sym m.2) (subst (λ b. IsWalk (Contains links) s walk b) (sym n.2) is_walk) in
+          let along : IsWalk (Contains links) (id_at names m.0) walk (id_at names n.0) = subst (λ a. IsWalk (Contains links) a walk (id_at names n.0)) (sym m.2)
+          (subst (λ b. IsWalk (Contains links) s walk b) (sym n.2) is_walk) in
           let there = are.every pair walk ((are_pairs pair).1 (m.1, n.1, differ, here)) along in
           Any-map (λ (answer : Answer Shown). (answer.start ≡ s) × (answer.end ≡ t)) (answer_of names) found
           (there.0, there.1, there.2, there.3, (ap (λ (p : Pair). id_at names p.start) there.4 ∙ m.2, ap (λ (p : Pair). id_at names p.end) there.4 ∙ n.2))
@@ -94,7 +99,8 @@ module _ (names : List ℤ) (Asked : ℤ → ℤ → Type 0) (pairs : List Pair)
             named_at : (found : List (Found Shown)) → AreFound (Contains links) Shows names pairs found → All (HasNames (length names)) found
             named_at found are = found_named (Contains links) Shows found are
 
-            by_found : (found : List (Found Shown)) → AreFound (Contains links) Shows names pairs found → IsStrictlyRising found_cmp found → (i j : ℕ) (x : Answer Shown) → i < j → j < length found → answer_cmp (get_or (map (answer_of names) found) i x) (get_or (map (answer_of names) found) j x) ≡ Less
+            by_found : (found : List (Found Shown)) → AreFound (Contains links) Shows names pairs found → IsStrictlyRising found_cmp found → (i j : ℕ) (x : Answer Shown)
+                → i < j → j < length found → answer_cmp (get_or (map (answer_of names) found) i x) (get_or (map (answer_of names) found) j x) ≡ Less
             by_found [] are rise i j x before within = absurd (omega arith)
             by_found (first ∷ rest) are rise i j x before within =
                 let all = first ∷ rest in
@@ -124,9 +130,14 @@ module _ (names : List ℤ) (Asked : ℤ → ℤ → Type 0) (pairs : List Pair)
           → IsPathTable Has Asked (Paths rows)
       path_table_found found rows are rise rows_are =
           let answers = answers_found (IsRouteBetween links names) found are rise in
-          let seen_so = answers-seen (map (named names)) (Contains links) Asked (IsRouteBetween links names) (IsLeastBetween (Contains links)) (λ s t route between. between.least) (map (answer_of names) found) answers in
-          let walks = subst (AreAnswers (Contains links) Asked (IsLeastBetween (Contains links))) (map-both (seen (map (named names))) (answer_of names) found) seen_so in
-          (walks_found names found, answers-over (Contains links) Has exactly Asked (IsLeastBetween (Contains links)) (IsLeastBetween Has) (IsLeastBetween-over (Contains links) Has exactly) (walks_found names found) walks, ap Paths rows_are)
+          let seen_so = answers-seen (map (named names)) (Contains links) Asked (IsRouteBetween links names) (IsLeastBetween (Contains links))
+          (λ s t route between. between.least) (map (answer_of names) found) answers in
+          let walks = subst (AreAnswers (Contains links) Asked (IsLeastBetween (Contains links))) (map-both (seen (map (named names))) (answer_of names) found) seen_so in (
+            walks_found names found,
+            answers-over (Contains links) Has exactly Asked (IsLeastBetween (Contains links)) (IsLeastBetween Has)
+                (IsLeastBetween-over (Contains links) Has exactly) (walks_found names found) walks,
+            ap Paths rows_are,
+          )
 
       -- the rows of the costs that are found are a table of costs
       pub cost_table_found : {Kept : Type 0} (cost : Kept → ℕ) (found : List (Found Kept)) (rows : List CostRow)
@@ -136,16 +147,23 @@ module _ (names : List ℤ) (Asked : ℤ → ℤ → Type 0) (pairs : List Pair)
           → IsCostTable Has Asked (Costs rows)
       cost_table_found cost found rows are rise rows_are =
           let answers = answers_found (λ start end kept. IsLeastCost (Contains links) start end (cost kept)) found are rise in
-          let seen_so = answers-seen cost (Contains links) Asked (λ start end kept. IsLeastCost (Contains links) start end (cost kept)) (IsLeastCost (Contains links)) (λ s t kept least. least) (map (answer_of names) found) answers in
-          let costs = subst (AreAnswers (Contains links) Asked (IsLeastCost (Contains links))) (map-both (seen cost) (answer_of names) found) seen_so in
-          (costs_found names cost found, answers-over (Contains links) Has exactly Asked (IsLeastCost (Contains links)) (IsLeastCost Has) (IsLeastCost-over (Contains links) Has exactly) (costs_found names cost found) costs, ap Costs rows_are)
+          let seen_so = answers-seen cost (Contains links) Asked (λ start end kept. IsLeastCost (Contains links) start end (cost kept)) (IsLeastCost (Contains links))
+          (λ s t kept least. least) (map (answer_of names) found) answers in
+          let costs = subst (AreAnswers (Contains links) Asked (IsLeastCost (Contains links))) (map-both (seen cost) (answer_of names) found) seen_so in (
+            costs_found names cost found,
+            answers-over (Contains links) Has exactly Asked (IsLeastCost (Contains links)) (IsLeastCost Has)
+                (IsLeastCost-over (Contains links) Has exactly) (costs_found names cost found) costs,
+            ap Costs rows_are,
+          )
 
 -- the routes that are found are between numbers of names
-pub routes_numbered : (links : List (LinkOf ℤ)) (names : List ℤ) (pairs : List Pair) (found : List (Found (List (LinkOf ℕ)))) → AreFound (Contains links) (IsRouteBetween links names) names pairs found → All (λ f. All (IsNumbered names) f.kept) found
+pub routes_numbered : (links : List (LinkOf ℤ)) (names : List ℤ) (pairs : List Pair) (found : List (Found (List (LinkOf ℕ))))
+    → AreFound (Contains links) (IsRouteBetween links names) names pairs found → All (λ f. All (IsNumbered names) f.kept) found
 routes_numbered links names pairs found are k d within = (are.shows k d within).numbered
 
 -- and have links
-pub routes_some : (links : List (LinkOf ℤ)) (names : List ℤ) (pairs : List Pair) (found : List (Found (List (LinkOf ℕ)))) → AreFound (Contains links) (IsRouteBetween links names) names pairs found → All (λ f. f.kept ≢ []) found
+pub routes_some : (links : List (LinkOf ℤ)) (names : List ℤ) (pairs : List Pair) (found : List (Found (List (LinkOf ℕ))))
+    → AreFound (Contains links) (IsRouteBetween links names) names pairs found → All (λ f. f.kept ≢ []) found
 routes_some links names pairs found are k d within = (are.shows k d within).some
 
 -- of the pairs that can be answered a matrix asks for those that its vertices twice and no combinations ask for
@@ -158,4 +176,9 @@ asked_of_matrix Has vids s t answerable = (into, λ asked. inl (asked.0, asked.1
 
 -- the costs between vertices twice, and no combinations, are those of their matrix
 pub matrix_table : (Has : LinkOf ℤ → Type 0) (vids : List ℤ) (rows : Rows) → IsCostTable Has (IsAsked vids vids []) rows → IsCostTable Has (IsAskedOfMatrix vids) rows
-matrix_table Has vids rows (answers, are, rows_are) = (answers, answers-asked Has (IsAsked vids vids []) (IsAskedOfMatrix vids) (IsLeastCost Has) (asked_of_matrix Has vids) answers are, rows_are)
+matrix_table Has vids rows (answers, are, rows_are) = (
+  answers,
+  answers-asked Has (IsAsked vids vids []) (IsAskedOfMatrix vids) (IsLeastCost Has)
+      (asked_of_matrix Has vids) answers are,
+  rows_are,
+)

@@ -21,7 +21,8 @@ IsAllowedFor function.DijkstraCostMatrix command tables rows = IsDijkstraCostMat
 abbrev pub IsAllowed : Command → Tables → Rows → Type 0
 IsAllowed command tables rows = IsAllowedFor command.function command tables rows
 
--- rows that answer a command: its files have contents, the known ones where they are known, each of them an accepted table of its role, and the rows are allowed over the tables that they are
+-- rows that answer a command: its files have contents, the known ones where they are known, each of them an accepted table of its role,
+-- and the rows are allowed over the tables that they are
 pub record AnswersCommand (command : Command) (known : List ℕ → Option (List ℕ)) (rows : Rows) : Type 0 where
   pub contents : List Content
   pub accepted : AreAccepted known (files_of command) contents

@@ -17,8 +17,8 @@ pub record Answer (Shown : Type 0) : Type 0 where
 abbrev pub answer_cmp : {Shown : Type 0} → Answer Shown → Answer Shown → Ordering
 answer_cmp a b = ordering_then (int_cmp a.start b.start) (int_cmp a.end b.end)
 
--- the answers over a set of links: each is for an asked pair that can be answered, and shows what is to be shown of it; each asked pair that can be answered and has a walk has one;
--- they rise by start and then by end, so no pair has two
+-- the answers over a set of links: each is for an asked pair that can be answered, and shows what is to be shown of it;
+-- each asked pair that can be answered and has a walk has one; they rise by start and then by end, so no pair has two
 pub record AreAnswers {Shown : Type 0} (Has : LinkOf ℤ → Type 0) (Asked : ℤ → ℤ → Type 0) (Shows : ℤ → ℤ → Shown → Type 0) (answers : List (Answer Shown)) : Type 0 where
   pub asked : All (λ answer. Asked answer.start answer.end) answers
   pub answerable : All (λ answer. IsAnswerable Has answer.start answer.end) answers

@@ -41,7 +41,8 @@ RisesByPair found = AllPairs (λ f g. pair_cmp (pair_of f) (pair_of g) ≡ Less)
 -- the new list has, behind what was found for any pairs, what is found for more of them: where all these pairs rise, it rises too
 abbrev pub Extends : {Shown : Type 0} → (LinkOf ℤ → Type 0) → (ℤ → ℤ → Shown → Type 0) → List ℤ → List Pair → List (Found Shown) → List (Found Shown) → Type 0
 Extends Has Shows names more old new =
-    (done : List Pair) → IsStrictlyRising pair_cmp (done ++ more) → AreFound Has Shows names done old × RisesByPair old → AreFound Has Shows names (done ++ more) new × RisesByPair new
+    (done : List Pair) → IsStrictlyRising pair_cmp (done ++ more) → AreFound Has Shows names done old × RisesByPair old
+    → AreFound Has Shows names (done ++ more) new × RisesByPair new
 
 -- both numbers of what is found are below this one
 abbrev pub HasNames : {Shown : Type 0} → ℕ → Found Shown → Type 0

@@ -21,14 +21,15 @@ pub record IsContentRefused (known : List ℕ → Option (List ℕ)) (file : Fil
   pub possible : IsPossible known (record { file = file; bytes = bytes })
   pub is_refused : refusal_of file.role bytes ≡ Some refused
 
--- what a refusal says of the file that it is for, where these were the counts of faults of names before and after: its count rose where a read failed, or else it has a content that is refused so; of want of memory nothing is said
+-- what a refusal says of the file that it is for, where these were the counts of faults of names before and after:
+-- its count rose where a read failed, or else it has a content that is refused so; where memory ran out nothing is said
 abbrev pub IsRefused : (List ℕ → Option (List ℕ)) → (List ℕ → ℕ) → (List ℕ → ℕ) → File → Refused → Type 0
 IsRefused known before after file (ReadFailed role) = (role ≡ file.role) × HasRisen (before file.name) (after file.name)
 IsRefused known before after file (TooLong role) = IsContentRefused known file (TooLong role)
 IsRefused known before after file (Table role fault) = IsContentRefused known file (Table role fault)
 IsRefused known before after file Memory = Unit {0}
 
--- a refusal holds: it is for one of the files, and the files before that one have contents, the known ones where they are known, that are accepted (want of memory always holds)
+-- a refusal holds: it is for one of the files, and the files before that one have contents, the known ones where they are known, that are accepted (where memory ran out, it always holds)
 pub record HoldsAmong (known : List ℕ → Option (List ℕ)) (before after : List ℕ → ℕ) (files : List File) (refused : Refused) : Type 0 where
   pub front : List File
   pub file : File

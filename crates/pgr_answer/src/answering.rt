@@ -36,7 +36,7 @@ pub fn answer<S: Store>(
     ensures allowed { IfOk result (λ answered. AnswersCommand command.now (S.content store.old) answered.rows) }
     ensures notes { IfOk result (λ answered. answered.notes ≡ []) }
 
-    // A refusal holds, and the first one by known contents is the answer, unless a read failed or memory was wanting.
+    // A refusal holds, and the first one by known contents is the answer, unless a read failed or memory ran out.
     ensures refused { IfErr result (λ refused. refused ≢ Refused.Memory
         → HoldsAmong (S.content store.old) (S.faults store.old) (S.faults store.new) (files_of command.now) refused) }
     ensures first { (refused : ARefused) → IsFirstRefusal (S.content store.old) (files_of command.now) refused

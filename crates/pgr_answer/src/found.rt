@@ -2,7 +2,7 @@ ghost use Rattle.std.specs.Prelude.{◌≡◌, ◌≢◌, ◌<◌, ◌≤◌, []
 ghost use Rattle.pgr_outside.specs.Lists.{IsStrictlyRising};
 ghost use Rattle.pgr_walks.specs.Label.{HoldsLabels};
 ghost use Rattle.pgr_walks.specs.LinksOf.{LinksOf};
-ghost use Rattle.pgr_answer.specs.Networks.{IsNetwork};
+ghost use Rattle.pgr_answer.specs.Networks.{IsNetworkOf};
 ghost use Rattle.pgr_answer.specs.Gathering.{pair_cmp};
 ghost use Rattle.pgr_answer.specs.Finding.{found_cmp, IsPairAmong, HaveEnd, AreFound, Extends};
 
@@ -35,7 +35,7 @@ pub(crate) fn found_for<G: Graph, K: Kept>(
     network: &Network<G>,
     pairs: &[Pair],
 ) -> Result<Vec<Found<K>>, NoMemory>
-    requires network { IsNetwork network.now.links.items network.now.names (G.count network.now.graph) (G.ins network.now.graph) }
+    requires network { IsNetworkOf G.Graph network.now }
     requires among { All (IsPairAmong (length network.now.names)) pairs.now }
     requires rise { IsStrictlyRising pair_cmp pairs.now }
     ensures found { IfOk result (λ found. AreFound (Contains network.now.links.items)
@@ -78,7 +78,7 @@ fn find_group<G: Graph, K: Kept>(
     room: &mut Room,
     found: &mut Vec<Found<K>>,
 ) -> Result<(), NoMemory>
-    requires network { IsNetwork network.now.links.items network.now.names (G.count network.now.graph) (G.ins network.now.graph) }
+    requires network { IsNetworkOf G.Graph network.now }
     requires some { group.now ≢ [] }
     requires one_end { HaveEnd group.now }
     requires among { All (IsPairAmong (length network.now.names)) group.now }
@@ -107,7 +107,7 @@ fn find_pair<G: Graph, K: Kept>(
     end: u32,
     found: &mut Vec<Found<K>>,
 ) -> Result<(), NoMemory>
-    requires network { IsNetwork network.now.links.items network.now.names (G.count network.now.graph) (G.ins network.now.graph) }
+    requires network { IsNetworkOf G.Graph network.now }
     requires room { HoldsLabels (G.count network.now.graph) (LinksOf G.Graph network.now.graph) (end ∷ []) room.now }
     requires start { start < length network.now.names }
     requires end { end < length network.now.names }

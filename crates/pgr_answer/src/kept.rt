@@ -1,10 +1,10 @@
 ghost use Rattle.std.specs.Prelude.{◌≡◌, ◌≢◌, ◌<◌, ℕ, ℤ, List, [], ◌∷◌, length, Contains, IfOk, IfSome, IfNone};
 ghost use Rattle.pgr_walks.specs.declared.link.LinkOf.{LinkOf};
 ghost use Rattle.pgr_walks.specs.Walk.{IsWalk};
-ghost use Rattle.pgr_walks.specs.Graph.{IsLinkOf};
+ghost use Rattle.pgr_walks.specs.LinksOf.{LinksOf};
 ghost use Rattle.pgr_walks.specs.Label.{HoldsLabels};
 ghost use Rattle.pgr_numbers.specs.Names.{id_at};
-ghost use Rattle.pgr_answer.specs.Networks.{IsNetwork};
+ghost use Rattle.pgr_answer.specs.Networks.{IsNetworkOf};
 
 use crate::network::Network;
 use pgr_numbers::{
@@ -32,8 +32,8 @@ pub(crate) trait Kept: Drop {
         start: u32,
         end: u32,
     ) -> Result<Option<Self>, NoMemory>
-        requires network { IsNetwork network.now.links.items network.now.names (G.count network.now.graph) (G.ins network.now.graph) }
-        requires room { HoldsLabels (G.count network.now.graph) (IsLinkOf (G.count network.now.graph) (G.ins network.now.graph)) (end ∷ []) room.now }
+        requires network { IsNetworkOf G.Graph network.now }
+        requires room { HoldsLabels (G.count network.now.graph) (LinksOf G.Graph network.now.graph) (end ∷ []) room.now }
         requires start { start < length network.now.names }
         requires end { end < length network.now.names }
         requires differ { start ≢ end }
@@ -95,18 +95,17 @@ mod tests {
     use pgr_walks::ListGraph;
     use std::test::Fail;
 
-    // From 1 to 3 two edges cost 5, and one costs 9; no walk leads back.
+    /// From 1 to 3 two edges cost 5, and one costs 9; no walk leads back.
     const TABLE: &[u8] = b"id,source,target,cost\n1,1,2,3\n2,2,3,2\n3,1,3,9\n";
 
-    // What is kept of the walks from a start to an end, by their numbers.
+    /// What is kept of the walks from a start to an end, by their numbers.
     fn between<K: Kept>(
         alloc: Global,
         network: &Network<ListGraph>,
         start: u32,
         end: u32,
     ) -> Result<Option<K>, NoMemory>
-        requires network { IsNetwork network.now.links.items network.now.names
-            (⟦<ListGraph as Graph>⟧.count network.now.graph) (⟦<ListGraph as Graph>⟧.ins network.now.graph) }
+        requires network { IsNetworkOf ⟦<ListGraph as Graph>⟧ network.now }
         requires start { start < length network.now.names }
         requires end { end < length network.now.names }
         requires differ { start ≢ end }

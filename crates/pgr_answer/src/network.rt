@@ -1,7 +1,7 @@
 ghost use Rattle.std.specs.Prelude.{◌≡◌, ◌↔◌, ℤ, Contains, IfOk};
 ghost use Rattle.pgr_walks.specs.declared.link.LinkOf.{LinkOf};
 ghost use Rattle.pgr_graph.specs.Links.{IsLinkOfTable};
-ghost use Rattle.pgr_answer.specs.Networks.{IsNetwork};
+ghost use Rattle.pgr_answer.specs.Networks.{IsNetworkOf};
 
 use pgr_graph::{links_fit, links_of};
 use pgr_numbers::{Names, names_are_few, numbered_links_fit};
@@ -30,8 +30,7 @@ pub(crate) fn network_of(
     directed: bool,
 ) -> Result<Network<ListGraph>, NoMemory>
     ensures links { IfOk result (λ network. (link : LinkOf ℤ) → Contains network.links.items link ↔ IsLinkOfTable edges.now directed link) }
-    ensures network { IfOk result (λ network. IsNetwork network.links.items network.names
-        (⟦<ListGraph as Graph>⟧.count network.graph) (⟦<ListGraph as Graph>⟧.ins network.graph)) }
+    ensures network { IfOk result (IsNetworkOf ⟦<ListGraph as Graph>⟧) }
 {
     // From this call it is known that a table has few enough rows for its names to be numbered.
     let _rows = edges.len();

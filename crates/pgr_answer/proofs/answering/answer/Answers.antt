@@ -9,12 +9,14 @@ returns-in_err-tables-clause-refused g c = if_err c.from_residual.result c.in_er
 pub returns-in_err-tables-clause-first : goal.returns-in_err-tables-clause-first
 returns-in_err-tables-clause-first g c refused first =
     errs_this c.from_residual.result c.in_err-tables.field-0.0 refused c.from_residual.ensures.1
-    (first_among (g.S.Store.content c.args.store.now) (g.S.Store.faults c.args.store.now) (g.S.Store.faults c.read_tables.new.store) (files_of c.args.command.now) c.in_err-tables.field-0.0 refused c.in_err-tables.ensures.refused first)
+    (first_among (g.S.Store.content c.args.store.now) (g.S.Store.faults c.args.store.now) (g.S.Store.faults c.read_tables.new.store)
+    (files_of c.args.command.now) c.in_err-tables.field-0.0 refused c.in_err-tables.ensures.refused first)
 
 pub returns-in_err-tables-clause-completes : goal.returns-in_err-tables-clause-completes
 returns-in_err-tables-clause-completes g c known =
     errs_outside c.from_residual.result c.in_err-tables.field-0.0 c.from_residual.ensures.1
-    (outside_among (g.S.Store.content c.args.store.now) (g.S.Store.faults c.args.store.now) (g.S.Store.faults c.read_tables.new.store) (files_of c.args.command.now) c.in_err-tables.field-0.0 c.in_err-tables.ensures.refused known)
+    (outside_among (g.S.Store.content c.args.store.now) (g.S.Store.faults c.args.store.now) (g.S.Store.faults c.read_tables.new.store)
+    (files_of c.args.command.now) c.in_err-tables.field-0.0 c.in_err-tables.ensures.refused known)
 
 pub returns-clause-allowed : goal.returns-clause-allowed
 returns-clause-allowed g c =

@@ -5,7 +5,8 @@ use Rattle.pgr_answer.proofs.TablesFound.{pairs_among, found_named, cost_table_f
 use Rattle.pgr_answer.proofs.costs.costs_between.Goals as goal
 
 pub found_for-requires-clause-among : goal.found_for-requires-clause-among
-found_for-requires-clause-among c = rw c.as_slice-pairs.ensures.value (pairs_among _ (IsAsked c.args.starts.now c.args.ends.now c.args.combinations.now) _ c.in_ok-pairs.ensures.exactly)
+found_for-requires-clause-among c = rw c.as_slice-pairs.ensures.value
+    (pairs_among _ (IsAsked c.args.starts.now c.args.ends.now c.args.combinations.now) _ c.in_ok-pairs.ensures.exactly)
 
 pub rows_of_costs-requires : goal.rows_of_costs-requires
 rows_of_costs-requires c =

@@ -5,12 +5,14 @@ use Rattle.pgr_answer.proofs.TablesFound.{pairs_among, found_named, path_table_f
 use Rattle.pgr_answer.proofs.dijkstra.dijkstra_rows.Goals as goal
 
 pub found_for-requires-clause-among : goal.found_for-requires-clause-among
-found_for-requires-clause-among c = rw c.as_slice-pairs.ensures.value (pairs_among _ (IsAsked c.as_slice-starts.result.now c.as_slice-ends.result.now c.args.tables.now.combinations) _ c.in_ok-pairs.ensures.exactly)
+found_for-requires-clause-among c = rw c.as_slice-pairs.ensures.value
+    (pairs_among _ (IsAsked c.as_slice-starts.result.now c.as_slice-ends.result.now c.args.tables.now.combinations) _ c.in_ok-pairs.ensures.exactly)
 
 pub rows_of_routes-requires-clause-named : goal.rows_of_routes-requires-clause-named
 rows_of_routes-requires-clause-named c =
     let are = rw c.as_slice-pairs.ensures.value at c.in_ok-found.ensures.found in
-    rw c.as_slice-found.ensures.value (found_named _ (IsAsked c.as_slice-starts.result.now c.as_slice-ends.result.now c.args.tables.now.combinations) _ c.in_ok-pairs.ensures.exactly _ _ _ are)
+    rw c.as_slice-found.ensures.value (found_named _ (IsAsked c.as_slice-starts.result.now c.as_slice-ends.result.now c.args.tables.now.combinations) _
+    c.in_ok-pairs.ensures.exactly _ _ _ are)
 
 pub rows_of_routes-requires-clause-numbered : goal.rows_of_routes-requires-clause-numbered
 rows_of_routes-requires-clause-numbered c = rw c.as_slice-found.ensures.value (routes_numbered _ _ _ _ c.in_ok-found.ensures.found)

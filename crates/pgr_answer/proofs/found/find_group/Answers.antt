@@ -8,9 +8,11 @@ use Rattle.pgr_answer.proofs.found.find_group.Goals as goal
 
 pub loop-pair-preserved : goal.loop-pair-preserved
 loop-pair-preserved g c =
-    extends_more _ _ _ c.args.group.now c.loop-pair.pair-index _ _ _ _ _ (omega arith) (one_end_pair c.args.group.now c.requires.one_end c.loop-pair.pair-index _ (omega arith)) c.loop-pair.invariant c.in_ok-find_pair.ensures
+    extends_more _ _ _ c.args.group.now c.loop-pair.pair-index _ _ _ _ _ (omega arith)
+    (one_end_pair c.args.group.now c.requires.one_end c.loop-pair.pair-index _ (omega arith)) c.loop-pair.invariant c.in_ok-find_pair.ensures
 
 pub returns-clause-found : goal.returns-clause-found
 returns-clause-found g c =
-    subst (λ pairs. Extends (Contains c.args.network.now.links.items) (g.K.Kept.shows c.args.network.now.links.items c.args.network.now.names) c.args.network.now.names pairs c.args.found.now.items c.loop-pair.found.items)
+    subst (λ pairs. Extends (Contains c.args.network.now.links.items)
+    (g.K.Kept.shows c.args.network.now.links.items c.args.network.now.names) c.args.network.now.names pairs c.args.found.now.items c.loop-pair.found.items)
     (take_all c.loop-pair.pair-index c.args.group.now (omega (arith, c.loop-pair-test.false))) c.loop-pair.invariant

@@ -5,4 +5,5 @@ use Rattle.pgr_answer.proofs.found.find_group.Given as goal
 
 -- what is found has more for the pairs so far
 abbrev pub invariant-loop-pair : goal.invariant-loop-pair
-invariant-loop-pair g l = Extends (Contains l.network.links.items) (g.K.Kept.shows l.network.links.items l.network.names) l.network.names (take l.pair-index l.group) l.initial.found.items l.found.items
+invariant-loop-pair g l = Extends (Contains l.network.links.items) (g.K.Kept.shows l.network.links.items l.network.names) l.network.names
+    (take l.pair-index l.group) l.initial.found.items l.found.items

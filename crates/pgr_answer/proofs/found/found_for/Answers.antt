@@ -33,7 +33,8 @@ loop-rest-preserved g c =
       done = so_far.done ++ front;
       order = order;
       among = rw c.split_at.ensures.back (All-drop (IsPairAmong (length c.args.network.now.names)) _ c.loop-rest.rest.now so_far.among);
-      found = c.in_ok-find_group.ensures.found so_far.done (rises_front pair_cmp (so_far.done ++ front) back (subst (IsStrictlyRising pair_cmp) order c.requires.rise)) so_far.found;
+      found = c.in_ok-find_group.ensures.found so_far.done (rises_front pair_cmp (so_far.done ++ front) back
+          (subst (IsStrictlyRising pair_cmp) order c.requires.rise)) so_far.found;
       size = c.in_ok-find_group.ensures.size;
     }
 
@@ -48,4 +49,5 @@ returns-clause-found g c =
 
 pub returns-clause-rise : goal.returns-clause-rise
 returns-clause-rise g c =
-    found_rises _ _ c.loop-rest.invariant.found.1 c.sort_unstable_by_key.ensures.permutation (c.sort_unstable_by_key.ensures.sorted (λ f. (f.start, f.end)) (answers_always _ _ _ (λ f a r g h. search rules)))
+    found_rises _ _ c.loop-rest.invariant.found.1 c.sort_unstable_by_key.ensures.permutation
+    (c.sort_unstable_by_key.ensures.sorted (λ f. (f.start, f.end)) (answers_always _ _ _ (λ f a r g h. search rules)))

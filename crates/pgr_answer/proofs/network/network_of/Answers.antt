@@ -6,7 +6,8 @@ pub numbered-requires : goal.numbered-requires
 numbered-requires c = rw c.as_slice-3.ensures.value (rw c.as_slice-2.ensures.value at c.in_ok-names.ensures.named)
 
 pub from_links-requires-clause-once : goal.from_links-requires-clause-once
-from_links-requires-clause-once c = (c.numbered_links_fit.ensures.repeats _ _ _ (rw c.as_slice-3.ensures.value at c.in_ok-numbered.ensures)).0 (links_once _ c.in_ok-links.ensures.rising)
+from_links-requires-clause-once c = (c.numbered_links_fit.ensures.repeats _ _ _ (rw c.as_slice-3.ensures.value at c.in_ok-numbered.ensures)).0
+    (links_once _ c.in_ok-links.ensures.rising)
 
 pub returns-clause-network : goal.returns-clause-network
 returns-clause-network c = record {

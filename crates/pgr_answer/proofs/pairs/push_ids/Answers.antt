@@ -14,4 +14,5 @@ returns c =
     let one = λ (m n : ℕ). c.numbers_rise_with_ids.ensures.one c.args.names.now m n c.len.ensures.rise in
     let start_at : id_at c.args.names.now c.in-Some.start ≡ c.args.start = simp to_z-of_z at c.in-Some.ensures.id in
     let end_at : id_at c.args.names.now c.in-Some-number.end ≡ c.args.end = simp to_z-of_z at c.in-Some-number.ensures.id in
-    on_ok_weaker c.push_pair.result (gains_ids c.args.names.now one c.in-Some.start c.in-Some-number.end c.args.start c.args.end _ _ c.in-Some.ensures.below start_at c.in-Some-number.ensures.below end_at) c.push_pair.ensures
+    on_ok_weaker c.push_pair.result (gains_ids c.args.names.now one c.in-Some.start c.in-Some-number.end c.args.start c.args.end _ _ c.in-Some.ensures.below start_at
+    c.in-Some-number.ensures.below end_at) c.push_pair.ensures

@@ -26,7 +26,8 @@ returns-in-Ok-read-clause-tables g c =
     let file : File = record { role = c.args.role; name = c.in-Some.name.now } in
     let is : file_name_of c.args.command.now c.args.role ≡ Some c.in-Some.name.now = sym c.file_name.ensures ∙ ap (option_map (λ name. name.now)) c.in-Some.is in
     rw (files_with_one c.args.command.now c.args.role c.in-Some.name.now is)
-    (read_of known file c.in-Ok.bytes.items c.as_slice.result.now c.args.tables.now c.read.new.self c.as_slice.ensures.value c.in-Ok.ensures.whole (omega (arith, c.in-Ok.ensures.within, c.in-Ok.bytes.ok.0)) c.in-Ok-read.ensures)
+    (read_of known file c.in-Ok.bytes.items c.as_slice.result.now c.args.tables.now c.read.new.self c.as_slice.ensures.value c.in-Ok.ensures.whole
+    (omega (arith, c.in-Ok.ensures.within, c.in-Ok.bytes.ok.0)) c.in-Ok-read.ensures)
 
 pub returns-clause-refused : goal.returns-clause-refused
 returns-clause-refused g c =
@@ -35,5 +36,6 @@ returns-clause-refused g c =
     let after = g.S.Store.faults c.read_file.new.store in
     let file : File = record { role = c.args.role; name = c.in-Some.name.now } in
     let is : file_name_of c.args.command.now c.args.role ≡ Some c.in-Some.name.now = sym c.file_name.ensures ∙ ap (option_map (λ name. name.now)) c.in-Some.is in
-    let refused = refused_of known before after file c.in-Ok.bytes.items c.as_slice.result.now c.in-Err-read.refused c.args.tables.now c.read.new.self c.as_slice.ensures.value c.in-Ok.ensures.whole (omega (arith, c.in-Ok.ensures.within, c.in-Ok.bytes.ok.0)) c.in-Err-read.ensures in
+    let refused = refused_of known before after file c.in-Ok.bytes.items c.as_slice.result.now c.in-Err-read.refused c.args.tables.now c.read.new.self c.as_slice.ensures.value
+    c.in-Ok.ensures.whole (omega (arith, c.in-Ok.ensures.within, c.in-Ok.bytes.ok.0)) c.in-Err-read.ensures in
     rw (files_with_one c.args.command.now c.args.role c.in-Some.name.now is, c.refused_table.ensures) (holds_one known before after file _ refused)

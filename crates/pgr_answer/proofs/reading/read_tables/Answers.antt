@@ -24,7 +24,8 @@ returns-in_err-read_role-clause-refused g c =
     let inside : i < length roles = omega (arith, count, c.loop-role-test.true) in
     let here : HoldsAmong known (g.S.Store.faults c.loop-role.store) after (files_with command (get_or roles i Edges)) found =
     rw (c.roles-role-items.ensures, c.loop-role.invariant.content) at c.in_err-read_role.ensures.refused in
-    let all = holds_behind known before (g.S.Store.faults c.loop-role.store) after (flat_map (files_with command) (take i roles)) (files_with command (get_or roles i Edges)) (flat_map (files_with command) (drop (i + 1) roles))
+    let all = holds_behind known before (g.S.Store.faults c.loop-role.store) after (flat_map (files_with command) (take i roles)) (files_with command (get_or roles i Edges))
+    (flat_map (files_with command) (drop (i + 1) roles))
     no_tables c.loop-role.tables found c.loop-role.invariant.read c.loop-role.invariant.faults here in
     if_err c.from_residual.result found (HoldsAmong known before after (files_of command)) c.from_residual.ensures.1
     (subst (λ files. HoldsAmong known before after files found) (files_split command roles i Edges inside) all)
@@ -39,7 +40,8 @@ loop-role-preserved g c =
     let here : AreRead known (files_with command (get_or roles i Edges)) c.loop-role.tables c.read_role.new.tables =
     rw (c.roles-role-items.ensures, c.loop-role.invariant.content) at c.in_ok-read_role.ensures.tables in
     record {
-      read = subst (λ files. AreRead known files no_tables c.read_role.new.tables) (sym (files_more command roles i Edges inside)) (read_both known _ _ no_tables c.loop-role.tables c.read_role.new.tables c.loop-role.invariant.read here);
+      read = subst (λ files. AreRead known files no_tables c.read_role.new.tables) (sym (files_more command roles i Edges inside))
+          (read_both known _ _ no_tables c.loop-role.tables c.read_role.new.tables c.loop-role.invariant.read here);
       content = c.in_ok-read_role.ensures.content ∙ c.loop-role.invariant.content;
       faults = λ name. let low = c.loop-role.invariant.faults name in let high = c.in_ok-read_role.ensures.faults name in omega arith;
     }

@@ -39,7 +39,8 @@ module _ {X : Type 0} (cmp : X → X → Ordering) (total : IsTotalOrder cmp) wh
   rest_rises x xs rise i j d before within = rise (suc i) (suc j) d (omega arith) (omega arith)
 
   -- rising lists with the same elements begin with the same one
-  same_first : (x : X) (xs : List X) (y : X) (ys : List X) → IsStrictlyRising cmp (x ∷ xs) → IsStrictlyRising cmp (y ∷ ys) → (x ≡ y) ⊎ Contains xs y → (y ≡ x) ⊎ Contains ys x → x ≡ y
+  same_first : (x : X) (xs : List X) (y : X) (ys : List X) → IsStrictlyRising cmp (x ∷ xs) → IsStrictlyRising cmp (y ∷ ys) → (x ≡ y) ⊎ Contains xs y → (y ≡ x) ⊎ Contains ys x
+      → x ≡ y
   same_first x xs y ys rise rises (inl same) among = same
   same_first x xs y ys rise rises (inr later) (inl same) = sym same
   same_first x xs y ys rise rises (inr later) (inr later_too) = absurd (not_both x y (first_before x xs y rise later) (first_before y ys x rises later_too))
@@ -53,7 +54,8 @@ module _ {X : Type 0} (cmp : X → X → Ordering) (total : IsTotalOrder cmp) wh
       absurd (not_both z z itself itself)
 
   -- two strictly rising lists with the same elements are the same
-  pub rising_is_one : (xs ys : List X) → IsStrictlyRising cmp xs → IsStrictlyRising cmp ys → ((z : X) → Contains xs z → Contains ys z) → ((z : X) → Contains ys z → Contains xs z) → xs ≡ ys
+  pub rising_is_one : (xs ys : List X) → IsStrictlyRising cmp xs → IsStrictlyRising cmp ys → ((z : X) → Contains xs z → Contains ys z)
+      → ((z : X) → Contains ys z → Contains xs z) → xs ≡ ys
   rising_is_one [] [] rise rises into back = refl
   rising_is_one [] (y ∷ ys) rise rises into back = absurd (not_in_none y (back y (here y ys)))
   rising_is_one (x ∷ xs) [] rise rises into back = absurd (not_in_none x (into x (here x xs)))
