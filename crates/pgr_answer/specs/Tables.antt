@@ -1,6 +1,7 @@
 -- The tables that a command asks about, one of each kind: what contents of its files are.
 use Rattle.std.specs.Prelude.{ℕ, List, [], fold, Result, Ok, Err}
-use Rattle.pgr_table.specs.Judging.{judged_edges, judged_pairs}
+use Rattle.pgr_table.specs.Edges.{judged_edges}
+use Rattle.pgr_table.specs.Pairs.{judged_pairs}
 use Rattle.pgr_table.specs.declared.fault.TableFault.{TableFault}
 use Rattle.pgr_answer.specs.declared.role.Role.{Role}
 use Rattle.pgr_answer.specs.declared.role.Role.TheVariants.{Edges, Combinations}
