@@ -11,7 +11,7 @@ use pgr_outside::{Failed, Part, Sink, gather, gather_part};
 const PIECE_BYTES: usize = 16384;
 
 /// Lines that are gathered, to be handed to a sink at once.
-pub type Piece = ArrayString<PIECE_BYTES>;
+pub(crate) type Piece = ArrayString<PIECE_BYTES>;
 
 /// Adds a line of fields to the bytes that are gathered for a sink.
 pub(crate) fn gather_line<O: Sink>(

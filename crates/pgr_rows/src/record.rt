@@ -7,7 +7,7 @@ use crate::line::Piece;
 use pgr_outside::{Failed, Sink};
 
 /// A kind of row: the header line of its tables, and the line of a row.
-pub trait Record {
+pub(crate) trait Record {
     /// The header line, and the fields of a row.
     ghost layout: { Layout Self };
 

@@ -1,3 +1,3 @@
-pub mod PromiseLemmas
 pub mod Pieces
+pub mod PromiseLemmas
 pub mod Examples

@@ -1,9 +1,7 @@
 -- The message of each cause: one line.
 use Rattle.std.specs.Prelude.{ℕ, List, ◌++◌, codes, decimal}
-use Rattle.pgr_words.specs.Options as options
-use Rattle.pgr_words.specs.declared.fault.WordFault.{WordFault}
-use Rattle.pgr_words.specs.declared.fault.WordFault.TheVariants.{NoFunction, UnknownFunction, BadWord, UnknownOption, RepeatedOption, BadValue, MissingOption}
-use Rattle.pgr_table.specs.Columns as columns
+use Rattle.pgr_words.specs.FaultText as words
+use Rattle.pgr_table.specs.Kinds as columns
 use Rattle.pgr_table.specs.declared.fault.TableFault.{TableFault}
 use Rattle.pgr_table.specs.declared.fault.TableFault.TheVariants.{NoHeader, UnevenRecord, MissingColumn, RepeatedColumn, BadField, DuplicateId, TooManyRows, CostSum}
 use Rattle.pgr_answer.specs.Roles as roles
@@ -11,16 +9,6 @@ use Rattle.pgr_answer.specs.declared.refused.Refused.{Refused}
 use Rattle.pgr_answer.specs.declared.refused.Refused.TheVariants as refused
 use Rattle.pgr_run.specs.declared.cause.Cause.{Cause}
 use Rattle.pgr_run.specs.declared.cause.Cause.TheVariants as cause
-
--- what is said of words that break a rule
-abbrev pub words_text : WordFault → List ℕ
-words_text NoFunction = codes "no function"
-words_text UnknownFunction = codes "unknown function"
-words_text (BadWord place) = codes "bad word " ++ decimal place
-words_text (UnknownOption place) = codes "unknown option in word " ++ decimal place
-words_text (RepeatedOption option) = codes "option " ++ options.name_of option ++ codes " repeated"
-words_text (BadValue option) = codes "bad value for " ++ options.name_of option
-words_text (MissingOption option) = codes "option " ++ options.name_of option ++ codes " missing"
 
 -- what is said of a table with a fault
 abbrev pub table_text : TableFault → List ℕ
@@ -42,7 +30,7 @@ refused_text refused.Memory = codes "want of memory"
 
 -- what is said of a cause
 abbrev pub text_of : Cause → List ℕ
-text_of (cause.Words fault) = words_text fault
+text_of (cause.Words fault) = words.fault_text fault
 text_of (cause.Refused refused) = refused_text refused
 text_of cause.WriteFailed = codes "write failed"
 

@@ -2,11 +2,15 @@
 //!
 //! [`run`] reads the words as a command, answers it over the files of the store, and writes the result table to one sink
 //! and a line for the [`Cause`] of every [`Status`] but `Done` to the other.
-//! Proved: status 0 means that exactly the text of an allowed table was written, and no message (`done`, `silent`); every
-//! other status but want of memory names a cause that holds, and its message was written (`cause`); where the words or the
-//! files are refused, that is told, unless memory was wanting or a read failed (`words_where`, `refused_where`); where
-//! nothing is refused and nothing failed, all is done, unless memory was wanting (`completes`). Not proved: time, that
-//! memory suffices, and that the header line is written as one piece.
+//! Proved: status 0 means that exactly the text of an allowed table was written, and no message (`done`, `silent`). Every
+//! other status has a cause that holds, and its message was written, or a prefix of it where the count of faults of its sink
+//! rose (`cause`); the cause of out of memory says nothing of the words and the files. Where the words are refused, that is
+//! the status, unless it is out of memory (`words_where`). Where files whose content is known are refused, that is the status,
+//! unless it is out of memory or a read failed (`refused_where`). Where the content of each file is known and accepted, and
+//! neither a read nor a write failed, all is done, unless it is out of memory (`completes`). The output is left alone but for a
+//! table, or the prefix of one before a failed write (`untouched`, `cause`).
+//! Not proved: time, that memory suffices, that the header line is written as one piece, that the words are judged before
+//! anything is read, and that no memory is asked for once the rows stand.
 #![tactic(auto)]
 
 mod cause;

@@ -1,161 +1,138 @@
-ghost use Rattle.std.specs.Prelude.{◌≡◌, ◌+◌, ◌≤◌, ◌++◌, length, codes, decimal};
-ghost use Rattle.arrayvec.specs.ArrayString.{array_string_len};
-ghost use Rattle.pgr_words.specs.Options as options;
-ghost use Rattle.pgr_table.specs.Columns as columns;
-ghost use Rattle.pgr_answer.specs.Roles as roles;
-ghost use Rattle.pgr_run.specs.Messages.{message_of, text_of, words_text, table_text, refused_text};
+ghost use Rattle.std.specs.Prelude.{◌≡◌};
+ghost use Rattle.pgr_outside.specs.Parts.{parts_text};
+ghost use Rattle.pgr_run.specs.Messages.{message_of, text_of, table_text, refused_text};
 
 use crate::cause::Cause;
-use arrayvec::ArrayString;
-use itoa::Buffer;
-use pgr_answer::{Refused, Role};
-use pgr_table::{Column, TableFault};
-use pgr_words::{OptionName, WordFault};
+use pgr_answer::Refused;
+use pgr_outside::Part;
+use pgr_table::TableFault;
 
-/// Room for the longest message.
-const MESSAGE_BYTES: usize = 128;
+/// No words, where a text has fewer parts than there is room for.
+const NONE: Part<'static> = Part::Words("");
 
-/// The message of a cause: one line, with its line feed. It takes no memory.
-pub(crate) fn message(cause: Cause) -> ArrayString<MESSAGE_BYTES>
-    ensures { result.bytes ≡ message_of cause }
+/// The message of a cause, in parts: one line, with its line feed.
+pub(crate) fn message(cause: Cause) -> [Part<'static>; 8]
+    ensures { parts_text result ≡ message_of cause }
 {
-    let mut line = ArrayString::new();
-    line.push_str("pgr: ");
-    push_cause(&mut line, cause);
-    line.push_str("\n");
-    line
+    let [a, b, c, d, e, f] = text(cause);
+    [Part::Words("pgr: "), a, b, c, d, e, f, Part::Words("\n")]
 }
 
-/// Adds what is said of a cause.
-fn push_cause(line: &mut ArrayString<MESSAGE_BYTES>, cause: Cause)
-    requires room { array_string_len line.old + 59 ≤ MESSAGE_BYTES }
-    ensures bytes { line.new.bytes ≡ line.old.bytes ++ text_of cause }
-    ensures len { array_string_len line.new ≤ array_string_len line.old + 59 }
+/// What is said of a cause, in parts.
+fn text(cause: Cause) -> [Part<'static>; 6]
+    ensures { parts_text result ≡ text_of cause }
 {
     match cause {
-        Cause::Words(fault) => push_words(line, fault),
-        Cause::Refused(refused) => push_refused(line, refused),
-        Cause::WriteFailed => line.push_str("write failed"),
-    }
-}
-
-/// Adds what is said of words that break a rule.
-fn push_words(line: &mut ArrayString<MESSAGE_BYTES>, fault: WordFault)
-    requires room { array_string_len line.old + 43 ≤ MESSAGE_BYTES }
-    ensures bytes { line.new.bytes ≡ line.old.bytes ++ words_text fault }
-    ensures len { array_string_len line.new ≤ array_string_len line.old + 43 }
-{
-    match fault {
-        WordFault::NoFunction => line.push_str("no function"),
-        WordFault::UnknownFunction => line.push_str("unknown function"),
-        WordFault::BadWord(place) => push_numbered(line, "bad word ", place),
-        WordFault::UnknownOption(place) => push_numbered(line, "unknown option in word ", place),
-        WordFault::RepeatedOption(option) => push_option(line, option, " repeated"),
-        WordFault::BadValue(option) => {
-            line.push_str("bad value for ");
-            line.push_str(option.name());
+        Cause::Words(fault) => {
+            let [a, b, c] = fault.parts();
+            [a, b, c, NONE, NONE, NONE]
         }
-        WordFault::MissingOption(option) => push_option(line, option, " missing"),
+        Cause::Refused(refused) => refusal(refused),
+        Cause::WriteFailed => [Part::Words("write failed"), NONE, NONE, NONE, NONE, NONE],
     }
 }
 
-/// Adds what is said of a command that isn't answered; a file is called by its role.
-fn push_refused(line: &mut ArrayString<MESSAGE_BYTES>, refused: Refused)
-    requires room { array_string_len line.old + 59 ≤ MESSAGE_BYTES }
-    ensures bytes { line.new.bytes ≡ line.old.bytes ++ refused_text refused }
-    ensures len { array_string_len line.new ≤ array_string_len line.old + 59 }
+/// What is said of a command that isn't answered, in parts; a file is called by its role.
+fn refusal(refused: Refused) -> [Part<'static>; 6]
+    ensures { parts_text result ≡ refused_text refused }
 {
     match refused {
-        Refused::ReadFailed(role) => push_role(line, role, ": read failed"),
-        Refused::TooLong(role) => push_role(line, role, ": file too long"),
+        Refused::ReadFailed(role) => [
+            Part::Words(role.name()),
+            Part::Words(": read failed"),
+            NONE,
+            NONE,
+            NONE,
+            NONE,
+        ],
+        Refused::TooLong(role) => [
+            Part::Words(role.name()),
+            Part::Words(": file too long"),
+            NONE,
+            NONE,
+            NONE,
+            NONE,
+        ],
         Refused::Table(role, fault) => {
-            push_role(line, role, ": ");
-            push_table(line, fault);
+            let [a, b, c, d] = table(fault);
+            [Part::Words(role.name()), Part::Words(": "), a, b, c, d]
         }
-        Refused::Memory => line.push_str("want of memory"),
+        Refused::Memory => [Part::Words("want of memory"), NONE, NONE, NONE, NONE, NONE],
     }
 }
 
-/// Adds what is said of a table with a fault.
-fn push_table(line: &mut ArrayString<MESSAGE_BYTES>, fault: TableFault)
-    requires room { array_string_len line.old + 45 ≤ MESSAGE_BYTES }
-    ensures bytes { line.new.bytes ≡ line.old.bytes ++ table_text fault }
-    ensures len { array_string_len line.new ≤ array_string_len line.old + 45 }
+fn table(fault: TableFault) -> [Part<'static>; 4]
+    ensures { parts_text result ≡ table_text fault }
 {
+    let record = Part::Words("record ");
+    let column_is = Part::Words("column ");
     match fault {
-        TableFault::NoHeader => line.push_str("no header"),
-        TableFault::UnevenRecord(number) => push_record(line, number, " is uneven"),
-        TableFault::MissingColumn(column) => push_column(line, column, " missing"),
-        TableFault::RepeatedColumn(column) => push_column(line, column, " repeated"),
-        TableFault::BadField(number, column) => {
-            push_record(line, number, ": bad ");
-            line.push_str(column.name());
-        }
-        TableFault::DuplicateId(number) => push_record(line, number, ": id repeated"),
-        TableFault::TooManyRows(number) => push_record(line, number, ": too many rows"),
-        TableFault::CostSum(number) => push_record(line, number, ": sum too large"),
+        TableFault::NoHeader => [Part::Words("no header"), NONE, NONE, NONE],
+        TableFault::UnevenRecord(number) => [
+            record,
+            Part::Number(number),
+            Part::Words(" is uneven"),
+            NONE,
+        ],
+        TableFault::MissingColumn(column) => [
+            column_is,
+            Part::Words(column.name()),
+            Part::Words(" missing"),
+            NONE,
+        ],
+        TableFault::RepeatedColumn(column) => [
+            column_is,
+            Part::Words(column.name()),
+            Part::Words(" repeated"),
+            NONE,
+        ],
+        TableFault::BadField(number, column) => [
+            record,
+            Part::Number(number),
+            Part::Words(": bad "),
+            Part::Words(column.name()),
+        ],
+        TableFault::DuplicateId(number) => [
+            record,
+            Part::Number(number),
+            Part::Words(": id repeated"),
+            NONE,
+        ],
+        TableFault::TooManyRows(number) => [
+            record,
+            Part::Number(number),
+            Part::Words(": too many rows"),
+            NONE,
+        ],
+        TableFault::CostSum(number) => [
+            record,
+            Part::Number(number),
+            Part::Words(": sum too large"),
+            NONE,
+        ],
     }
-}
-
-/// Adds an option by its name, and a text.
-fn push_option(line: &mut ArrayString<MESSAGE_BYTES>, option: OptionName, after: &str)
-    requires room { array_string_len line.old + 19 + length after.now ≤ MESSAGE_BYTES }
-    ensures bytes { line.new.bytes ≡ line.old.bytes ++ (codes "option " ++ options.name_of option ++ after.now) }
-    ensures len { array_string_len line.new ≤ array_string_len line.old + 19 + length after.now }
-{
-    line.push_str("option ");
-    line.push_str(option.name());
-    line.push_str(after);
-}
-
-/// Adds a column by its name, and a text.
-fn push_column(line: &mut ArrayString<MESSAGE_BYTES>, column: Column, after: &str)
-    requires room { array_string_len line.old + 19 + length after.now ≤ MESSAGE_BYTES }
-    ensures bytes { line.new.bytes ≡ line.old.bytes ++ (codes "column " ++ columns.name_of column ++ after.now) }
-    ensures len { array_string_len line.new ≤ array_string_len line.old + 19 + length after.now }
-{
-    line.push_str("column ");
-    line.push_str(column.name());
-    line.push_str(after);
-}
-
-/// Adds what a role is called, and a text.
-fn push_role(line: &mut ArrayString<MESSAGE_BYTES>, role: Role, after: &str)
-    requires room { array_string_len line.old + 12 + length after.now ≤ MESSAGE_BYTES }
-    ensures bytes { line.new.bytes ≡ line.old.bytes ++ (roles.name_of role ++ after.now) }
-    ensures len { array_string_len line.new ≤ array_string_len line.old + 12 + length after.now }
-{
-    line.push_str(role.name());
-    line.push_str(after);
-}
-
-/// Adds a record by its number, and a text.
-fn push_record(line: &mut ArrayString<MESSAGE_BYTES>, number: u64, after: &str)
-    requires room { array_string_len line.old + 27 + length after.now ≤ MESSAGE_BYTES }
-    ensures bytes { line.new.bytes ≡ line.old.bytes ++ (codes "record " ++ decimal number ++ after.now) }
-    ensures len { array_string_len line.new ≤ array_string_len line.old + 27 + length after.now }
-{
-    push_numbered(line, "record ", number);
-    line.push_str(after);
-}
-
-/// Adds a text, and a number in decimal.
-fn push_numbered(line: &mut ArrayString<MESSAGE_BYTES>, before: &str, number: u64)
-    requires room { array_string_len line.old + length before.now + 20 ≤ MESSAGE_BYTES }
-    ensures bytes { line.new.bytes ≡ line.old.bytes ++ (before.now ++ decimal number) }
-    ensures len { array_string_len line.new ≤ array_string_len line.old + length before.now + 20 }
-{
-    let mut digits = Buffer::new();
-    line.push_str(before);
-    line.push_str(digits.format(number));
 }
 
 #[cfg(test)]
 mod tests {
     use super::*;
+    use pgr_answer::Role;
+    use pgr_outside::{MemorySink, write_parts};
+    use pgr_table::Column;
+    use pgr_words::{OptionName, WordFault};
+    use std::process::Abort;
+    use std::test::Fail;
+
+    /// The message of a cause is this line.
+    fn tells(rt: &(impl Abort + AllocGlobal), cause: Cause, line: &str) -> Result<(), Fail> {
+        let mut err = MemorySink::with_room(rt.alloc(), 128, 128, Vec::new(rt.alloc()))?;
+        write_parts(&mut err, &message(cause))?;
+        assert_eq!(rt; err.bytes(), line.as_bytes());
+        Ok(())
+    }
 
     #[test]
-    fn broken_words_are_told_with_their_place_or_option(rt: HostRuntime) {
+    fn broken_words_are_told_with_their_place_or_option(rt: HostRuntime) -> Result<(), Fail> {
         for (fault, text) in [
             (WordFault::NoFunction, "pgr: no function\n"),
             (WordFault::UnknownFunction, "pgr: unknown function\n"),
@@ -177,12 +154,15 @@ mod tests {
                 "pgr: option end missing\n",
             ),
         ] {
-            assert_eq!(rt; message(Cause::Words(fault)).as_str(), text);
+            tells(&rt, Cause::Words(fault), text)?;
         }
+        Ok(())
     }
 
     #[test]
-    fn a_bad_table_is_told_with_its_role_and_its_record_or_column(rt: HostRuntime) {
+    fn a_bad_table_is_told_with_its_role_and_its_record_or_column(
+        rt: HostRuntime,
+    ) -> Result<(), Fail> {
         for (role, fault, text) in [
             (Role::Edges, TableFault::NoHeader, "pgr: edges: no header\n"),
             (
@@ -221,15 +201,13 @@ mod tests {
                 "pgr: edges: record 3: sum too large\n",
             ),
         ] {
-            assert_eq!(rt;
-                message(Cause::Refused(Refused::Table(role, fault))).as_str(),
-                text
-            );
+            tells(&rt, Cause::Refused(Refused::Table(role, fault)), text)?;
         }
+        Ok(())
     }
 
     #[test]
-    fn other_causes_are_told_and_the_longest_message_is_whole(rt: HostRuntime) {
+    fn other_causes_are_told_and_the_longest_message_is_whole(rt: HostRuntime) -> Result<(), Fail> {
         for (cause, text) in [
             (
                 Cause::Refused(Refused::TooLong(Role::Edges)),
@@ -249,7 +227,8 @@ mod tests {
                 "pgr: combinations: record 18446744073709551615: bad reverse_cost\n",
             ),
         ] {
-            assert_eq!(rt; message(cause).as_str(), text);
+            tells(&rt, cause, text)?;
         }
+        Ok(())
     }
 }

@@ -2,20 +2,17 @@ ghost use Rattle.std.specs.Prelude.{◌≡◌, ◌≢◌, ◌⊎◌, ◌≤◌, 
 ghost use Rattle.pgr_outside.specs.Faults.{HasRisen, NoneFell};
 ghost use Rattle.pgr_words.specs.Commands.{command_of};
 ghost use Rattle.pgr_answer.specs.Files.{files_of, IsKnownAccepted};
-ghost use Rattle.pgr_answer.specs.Refusals.{IsFirstRefusal};
-ghost use Rattle.pgr_answer.specs.declared.refused.Refused.{Refused as ARefused};
 ghost use Rattle.pgr_answer.specs.declared.refused.Refused.TheVariants as refused;
-ghost use Rattle.pgr_answer.specs.declared.role.Role.{Role as ARole};
 ghost use Rattle.pgr_run.specs.declared.cause.Cause.{Cause as ACause};
 ghost use Rattle.pgr_run.specs.Causes.{status_of, status_of_refusal};
 ghost use Rattle.pgr_run.specs.Messages.{message_of};
-ghost use Rattle.pgr_run.specs.Promise.{texts, Asks, WritesAllowed, WritesMessage, Holds, AReadFailed};
+ghost use Rattle.pgr_run.specs.Promise.{texts, Asks, WritesAllowed, WritesMessage, Holds, AReadFailed, EndsIn, WhereFirst};
 
 use crate::cause::Cause;
 use crate::message::message;
 use crate::status::Status;
 use pgr_answer::answer;
-use pgr_outside::{Sink, Store, write_all};
+use pgr_outside::{Sink, Store, write_parts};
 use pgr_rows::write_table;
 use pgr_words::read_words;
 use std::alloc::Global;
@@ -27,7 +24,7 @@ use std::alloc::Global;
 /// before the next is read; a write that failed. `Memory` may stand in place of any of them up to the writing.
 /// The output is written only after all rows stand, the whole header line first, so every status but `Done` and a failed
 /// write leaves it as it was. The other sink receives one line for the cause of every status but `Done`, last of all;
-/// where it fails, it holds a front of that line, and the status stays what it is.
+/// where it fails, it holds a prefix of that line, and the status stays what it is.
 pub fn run<S: Store, O: Sink, E: Sink>(
     alloc: Global,
     words: &[String],
@@ -40,7 +37,8 @@ pub fn run<S: Store, O: Sink, E: Sink>(
         (λ command. WritesAllowed command (S.content store.old) (O.written out.old) (O.written out.new)) }
     ensures silent { result ≡ Status.Done → err.new ≡ err.old }
 
-    // Every other status names a cause that holds, and its message was written, or a front of it where the count rose.
+    // Every other status has a cause that holds, its message was written, or a prefix of it where the count rose, and the
+    // output itself is left alone unless a write failed.
     ensures cause { result ≢ Status.Done → (cause : ACause) × (result ≡ status_of cause)
         × Holds (texts words.now) (record {
           content = S.content store.old;
@@ -51,22 +49,22 @@ pub fn run<S: Store, O: Sink, E: Sink>(
           faults_before = O.faults out.old;
           faults_after = O.faults out.new;
         }) cause
-        × WritesMessage (message_of cause) (E.written err.old) (E.written err.new) (E.faults err.old) (E.faults err.new) }
+        × WritesMessage (message_of cause) (E.written err.old) (E.written err.new) (E.faults err.old) (E.faults err.new)
+        × (cause ≢ Cause.WriteFailed → out.new ≡ out.old) }
 
-    // Where the words break a rule, or told contents are refused, that is the status, unless memory was wanting or a read failed.
+    // Where the words break a rule, or known contents are refused, that is the status, unless it is out of memory or a read failed.
     ensures words_where { IsErr (command_of (texts words.now)) → (result ≡ Status.Words) ⊎ (result ≡ Status.Memory) }
-    ensures refused_where { IfOk (command_of (texts words.now)) (λ command. (found : ARefused)
-        → IsFirstRefusal (S.content store.old) (files_of command) found
-        → (result ≡ status_of_refusal found) ⊎ (result ≡ Status.Memory)
+    ensures refused_where { WhereFirst (texts words.now) (S.content store.old) (λ command found. (result ≡ status_of_refusal found) ⊎ (result ≡ Status.Memory)
         ⊎ ((result ≡ Status.Outside) × AReadFailed command (S.content store.old) (S.faults store.old) (S.faults store.new))) }
 
-    // Where nothing is refused and nothing failed, all was done, unless memory was wanting.
+    // Where all contents are known and accepted and nothing failed, all was done, unless it is out of memory.
     ensures completes { IfOk (command_of (texts words.now)) (λ command. All (IsKnownAccepted (S.content store.old)) (files_of command)
         → All (λ file. ¬ HasRisen (S.faults store.old file.name) (S.faults store.new file.name)) (files_of command)
         → ¬ HasRisen (O.faults out.old) (O.faults out.new)
         → (result ≡ Status.Done) ⊎ (result ≡ Status.Memory)) }
 
-    // What stays.
+    // What stays: the output itself, but for a table that was begun.
+    ensures untouched { result ≢ Status.Done → result ≢ Status.Outside → out.new ≡ out.old }
     ensures unchanged { result ≢ Status.Done → result ≢ Status.Outside → O.written out.new ≡ O.written out.old }
     ensures out_tells { is_some (O.written out.new) ≡ is_some (O.written out.old) }
     ensures out_faults { O.faults out.old ≤ O.faults out.new }
@@ -78,13 +76,13 @@ pub fn run<S: Store, O: Sink, E: Sink>(
     match print_table(alloc, words, store, out) {
         Ok(()) => Status::Done,
         Err(cause) => {
-            let _ = write_all(err, message(cause).as_str().as_bytes());
+            let _ = write_parts(err, &message(cause));
             cause.status()
         }
     }
 }
 
-/// Writes the table that a command line asks for, or tells the cause why it isn't written whole.
+/// Writes the table that a command line asks for, or returns the cause why it isn't written whole.
 fn print_table<S: Store, O: Sink>(
     alloc: Global,
     words: &[String],
@@ -103,10 +101,8 @@ fn print_table<S: Store, O: Sink>(
       faults_after = O.faults out.new;
     })) }
     ensures words_where { IfErr (command_of (texts words.now)) (λ fault. IsErrOf result (Cause.Words fault) ⊎ IsErrOf result (Cause.Refused refused.Memory)) }
-    ensures refused_where { IfOk (command_of (texts words.now)) (λ command. (found : ARefused)
-        → IsFirstRefusal (S.content store.old) (files_of command) found
-        → IsErrOf result (Cause.Refused found) ⊎ IsErrOf result (Cause.Refused refused.Memory)
-        ⊎ ((role : ARole) × IsErrOf result (Cause.Refused (refused.ReadFailed role)))) }
+    ensures refused_where { WhereFirst (texts words.now) (S.content store.old) (λ _. EndsIn result Cause.Refused) }
+    ensures untouched { IfErr result (λ cause. cause ≢ Cause.WriteFailed → out.new ≡ out.old) }
     ensures out_faults { O.faults out.old ≤ O.faults out.new }
     ensures content { S.content store.new ≡ S.content store.old }
     ensures names_faults { NoneFell (S.faults store.old) (S.faults store.new) }

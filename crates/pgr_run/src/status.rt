@@ -14,7 +14,7 @@ pub enum Status {
     Table,
     /// 4: a file is longer than the limit, or a table has too many rows or too great a sum of costs.
     Limit,
-    /// 5: memory was wanting.
+    /// 5: out of memory.
     Memory,
 }
 

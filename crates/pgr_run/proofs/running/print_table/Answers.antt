@@ -15,17 +15,19 @@ returns-in_err-answered-clause-cause g c =
       faults_before = g.O.Sink.faults c.args.out.now;
       faults_after = g.O.Sink.faults c.args.out.now;
     })
-    c.in_ok-command.command c.in_err-answered.field-0.0 c.in_ok-command.ensures.verdict c.in_err-answered.ensures.refused refl)
+    c.in_ok-command.command c.in_ok-command.ensures.verdict refl c.in_err-answered.field-0.0 c.in_err-answered.ensures.refused)
 
 pub returns-in_err-answered-clause-refused_where : goal.returns-in_err-answered-clause-refused_where
 returns-in_err-answered-clause-refused_where g c =
-    first_told (texts c.args.words.now) c.in_ok-command.command c.in_ok-command.ensures.verdict (g.S.Store.content c.args.store.now) _ _ c.in_err-answered.field-0.0 refl
-    c.from_residual-in_err-answered.ensures.1 c.in_err-answered.ensures.first
+    first_told (texts c.args.words.now) c.in_ok-command.command c.in_ok-command.ensures.verdict (g.S.Store.content c.args.store.now)
+    _ c.in_err-answered.ensures.first _ c.in_err-answered.field-0.0 refl c.from_residual-in_err-answered.ensures.1
 
 pub returns-in_err-write_table-clause-refused_where : goal.returns-in_err-write_table-clause-refused_where
 returns-in_err-write_table-clause-refused_where g c =
-    none_first (texts c.args.words.now) c.in_ok-command.command c.in_ok-command.ensures.verdict (g.S.Store.content c.args.store.now) _ c.in_ok-answered.answered _ refl c.in_ok-answered.ensures.first
+    none_first (texts c.args.words.now) c.in_ok-command.command c.in_ok-command.ensures.verdict (g.S.Store.content c.args.store.now)
+    _ c.in_ok-answered.ensures.first c.in_ok-answered.answered _ refl
 
 pub returns-clause-refused_where : goal.returns-clause-refused_where
 returns-clause-refused_where g c =
-    none_first (texts c.args.words.now) c.in_ok-command.command c.in_ok-command.ensures.verdict (g.S.Store.content c.args.store.now) _ c.in_ok-answered.answered _ refl c.in_ok-answered.ensures.first
+    none_first (texts c.args.words.now) c.in_ok-command.command c.in_ok-command.ensures.verdict (g.S.Store.content c.args.store.now)
+    _ c.in_ok-answered.ensures.first c.in_ok-answered.answered _ refl
