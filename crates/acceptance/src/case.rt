@@ -9,8 +9,8 @@ use std::test::Fail;
 /// What a run is over: the content of its two files, and which calls fail, each by its number, counted from 1.
 #[derive(Clone, Copy)]
 pub(crate) struct Case<'a> {
-    /// The content of `a.csv`.
-    pub edges: &'a [u8],
+    /// The content of `a.csv`, or none where the store hasn't that file.
+    pub edges: Option<&'a [u8]>,
     /// The content of `p.csv`.
     pub pairs: &'a [u8],
     /// The reads of the store that fail.
@@ -33,7 +33,7 @@ impl<'a> Case<'a> {
     /// A case over these edges, where `p.csv` is empty and no call fails.
     pub(crate) fn over(edges: &'a [u8]) -> Case<'a> {
         Case {
-            edges,
+            edges: Some(edges),
             pairs: b"",
             failing_reads: &[],
             failing_writes: &[],
@@ -98,8 +98,10 @@ impl<'a> Case<'a> {
     /// The store of the files, which gives at most 16 bytes at a read.
     fn store(self, alloc: Global) -> Result<MemoryStore, AllocError> {
         let mut files = Vec::new(alloc);
-        let name = String::from_str(alloc, "a.csv")?;
-        files.push((name, Vec::from_slice(alloc, self.edges)?))?;
+        if let Some(edges) = self.edges {
+            let name = String::from_str(alloc, "a.csv")?;
+            files.push((name, Vec::from_slice(alloc, edges)?))?;
+        }
         let name = String::from_str(alloc, "p.csv")?;
         files.push((name, Vec::from_slice(alloc, self.pairs)?))?;
         let fails = Vec::from_slice(alloc, self.failing_reads)?;

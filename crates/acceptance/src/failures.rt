@@ -5,6 +5,16 @@ use std::test::Fail;
 
 #[test]
 fn a_file_that_is_not_there_is_a_failed_read(rt: HostRuntime) -> Result<(), Fail> {
+    let case = Case {
+        edges: None,
+        ..Case::over(A)
+    };
+    case.refuses(
+        &rt,
+        "pgr_dijkstra --edges=a.csv --start=1 --end=4",
+        Status::Outside,
+        "pgr: edges: read failed\n",
+    )?;
     let case = Case::over(A);
     case.refuses(
         &rt,

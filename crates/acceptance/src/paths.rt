@@ -88,12 +88,16 @@ fn paths_come_by_rising_pairs_and_rows_are_numbered_over_all(rt: HostRuntime) ->
 
 #[test]
 fn no_path_leads_from_a_vertex_to_itself(rt: HostRuntime) -> Result<(), Fail> {
+    let line = "pgr_dijkstra --edges=a.csv --start=1 --end=1";
+    Case::over(A).answers(&rt, line, PATHS, "")?;
     let line = "pgr_dijkstra --edges=a.csv --start=1,9 --end=1";
     Case::over(A).answers(&rt, line, PATHS, "")
 }
 
 #[test]
 fn no_path_leads_from_or_to_a_number_that_is_no_vertex(rt: HostRuntime) -> Result<(), Fail> {
+    let line = "pgr_dijkstra --edges=a.csv --start=9 --end=1";
+    Case::over(A).answers(&rt, line, PATHS, "")?;
     let line = "pgr_dijkstra --edges=a.csv --start=-1,9 --end=1";
     Case::over(A).answers(&rt, line, PATHS, "")?;
     let line = "pgr_dijkstra --edges=a.csv --start=1 --end=9223372036854775807";

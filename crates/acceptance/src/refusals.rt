@@ -114,7 +114,7 @@ fn the_edges_are_judged_before_the_combinations(rt: HostRuntime) -> Result<(), F
         "pgr: combinations: record 2: bad target\n",
     )?;
     let case = Case {
-        edges: b"id,source,cost",
+        edges: Some(b"id,source,cost"),
         ..case
     };
     case.refuses(
