@@ -13,3 +13,5 @@ pub mod BackWalks
 pub mod TurnedLinks
 pub mod LinkTests
 pub mod SparedLinks
+pub mod Noting
+pub mod Packing

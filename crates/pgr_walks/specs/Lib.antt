@@ -18,3 +18,5 @@ pub mod WithoutLaws
 pub mod Arrival
 pub mod Parts
 pub mod RowGraphLaws
+pub mod Ends
+pub mod Reaches

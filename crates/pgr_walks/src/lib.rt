@@ -9,7 +9,9 @@
 //! Not proved: time.
 #![tactic(auto)]
 
+mod adjacency;
 mod arrival;
+mod ends;
 mod graph;
 mod label;
 mod laws;
@@ -24,6 +26,8 @@ mod tests;
 mod visitor;
 mod without;
 
+pub use adjacency::Adjacency;
+pub use ends::{append_heads, append_tails};
 pub use graph::Graph;
 pub use label::Label;
 pub use laws::{
