@@ -1,0 +1,12 @@
+pub mod TrailLemmas
+pub mod Orders
+pub mod SpreadLemmas
+pub mod WalksAndTrails
+pub mod Places
+pub mod Entering
+pub mod Merging
+pub mod Closing
+pub mod Turning
+pub mod Naming
+pub mod SameName
+pub mod Examples
