@@ -1,7 +1,6 @@
 -- What a visitor that notes ends of links means after it was shown a list of them.
-use Rattle.std.proofs.Common.{◌≡◌, ℕ, suc, ◌+◌, ◌-◌, ◌^◌, ◌<◌, ◌≤◌, ◌++◌, List, [], ◌∷◌, Bool, true, false, cond, ltb, length, take, set, get_or, min, map, refl, ap, ◌∙◌, sym, subst, arith}
+use Rattle.std.proofs.Common.{◌≡◌, ℕ, suc, ◌+◌, ◌-◌, ◌^◌, ◌<◌, ◌≤◌, ◌++◌, List, [], ◌∷◌, true, false, cond, ltb, length, take, set, min, map, refl, ap, ◌∙◌, sym, subst, arith}
 use Rattle.std.specs.Borrow.{GName}
-use Rattle.std.proofs.lemmas.Bool.{cases_Bool}
 use Rattle.std.proofs.lemmas.Bool.Decides.{nat_tests}
 use Rattle.std.proofs.lemmas.List.{length-set, take-set-le, take_more_set, length-map, append_assoc, append-nil}
 use Rattle.pgr_walks.specs.declared.link.LinkOf.{LinkOf}
@@ -29,11 +28,13 @@ one_noted places next v = cond (ltb next (length places)) (set places next v) pl
 
 length-one_noted : (places : List ℕ) (next v : ℕ) → length (one_noted places next v) ≡ length places
 unfolding one_noted
-length-one_noted places next v = elim (ltb next (length places)) as (λ b. length (cond b (set places next v) places) ≡ length places) [ true ↦ length-set places next v | false ↦ refl ]
+length-one_noted places next v = elim (ltb next (length places)) as (λ b. length (cond b (set places next v) places) ≡ length places)
+    [ true ↦ length-set places next v | false ↦ refl ]
 
 take-one_noted : (places : List ℕ) (next v k : ℕ) → k ≤ next → take k (one_noted places next v) ≡ take k places
 unfolding one_noted
-take-one_noted places next v k h = elim (ltb next (length places)) as (λ b. take k (cond b (set places next v) places) ≡ take k places) [ true ↦ take-set-le k places next v h | false ↦ refl ]
+take-one_noted places next v k h = elim (ltb next (length places)) as (λ b. take k (cond b (set places next v) places) ≡ take k places)
+    [ true ↦ take-set-le k places next v h | false ↦ refl ]
 
 one_noted_inside : (places : List ℕ) (next v : ℕ) → next < length places → one_noted places next v ≡ set places next v
 unfolding one_noted
@@ -50,13 +51,15 @@ pub record AreNoted (m final : Notes) (links : List (LinkOf ℕ)) : Type 0 where
   pub next_is : final.next ≡ min (m.next + length links) (2 ^ 64 - 1)
   pub size_is : length final.places ≡ length m.places
   pub front : (k : ℕ) → k ≤ m.next → take k final.places ≡ take k m.places
-  pub noted : m.next + length links ≤ length m.places → m.next + length links ≤ 2 ^ 64 - 1 → take (m.next + length links) final.places ≡ take m.next m.places ++ map (end_of m.end) links
+  pub noted : m.next + length links ≤ length m.places → m.next + length links ≤ 2 ^ 64 - 1
+      → take (m.next + length links) final.places ≡ take m.next m.places ++ map (end_of m.end) links
 
 last_next : (next count : ℕ) → min (min (next + 1) (2 ^ 64 - 1) + count) (2 ^ 64 - 1) ≡ min (next + suc count) (2 ^ 64 - 1)
 last_next next count = omega arith
 
 -- one link more in front
-noted_more : (m final : Notes) (link : LinkOf ℕ) (links : List (LinkOf ℕ)) → m.next ≤ 2 ^ 64 - 1 → AreNoted (record m { places = one_noted m.places m.next (end_of m.end link); next = min (m.next + 1) (2 ^ 64 - 1) }) final links → AreNoted m final (link ∷ links)
+noted_more : (m final : Notes) (link : LinkOf ℕ) (links : List (LinkOf ℕ)) → m.next ≤ 2 ^ 64 - 1
+    → AreNoted (record m { places = one_noted m.places m.next (end_of m.end link); next = min (m.next + 1) (2 ^ 64 - 1) }) final links → AreNoted m final (link ∷ links)
 noted_more m final link links small h = record {
   reference_is = h.reference_is;
   next_is = h.next_is ∙ last_next m.next (length links);
@@ -88,7 +91,8 @@ shown_noted m (link ∷ links) small =
 
 -- what is behind a reference that the visitor still holds is what the visitor means
 pub noted_at_last : (reference held : GName) (places now final : List ℕ) (at last : ℕ) (end end' : End) (links : List (LinkOf ℕ)) → at ≤ 2 ^ 64 - 1
-    → ◌≡◌ {A = Notes} (record { reference = held; places = now; next = last; end = end' }) (shown notes_after always_on (record { reference = reference; places = places; next = at; end = end }) links)
+    → ◌≡◌ {A = Notes} (record { reference = held; places = now; next = last; end = end' })
+    (shown notes_after always_on (record { reference = reference; places = places; next = at; end = end }) links)
     → (reference ≡ held → final ≡ now) → HaveNoted at (map (end_of end) links) places final last
 noted_at_last reference held places now final at last end end' links small e follows =
     let m : Notes = record { reference = reference; places = places; next = at; end = end } in
@@ -105,11 +109,13 @@ noted_at_last reference held places now final at last end end' links small e fol
 
 -- the same for each end
 pub heads_at_last : (reference held : GName) (places now final : List ℕ) (at last : ℕ) (end : End) (links : List (LinkOf ℕ)) → at ≤ 2 ^ 64 - 1
-    → ◌≡◌ {A = Notes} (record { reference = held; places = now; next = last; end = end }) (shown notes_after always_on (record { reference = reference; places = places; next = at; end = Head }) links)
+    → ◌≡◌ {A = Notes} (record { reference = held; places = now; next = last; end = end })
+    (shown notes_after always_on (record { reference = reference; places = places; next = at; end = Head }) links)
     → (reference ≡ held → final ≡ now) → HaveNoted at (heads_of links) places final last
 heads_at_last reference held places now final at last end links small e follows = noted_at_last reference held places now final at last Head end links small e follows
 
 pub tails_at_last : (reference held : GName) (places now final : List ℕ) (at last : ℕ) (end : End) (links : List (LinkOf ℕ)) → at ≤ 2 ^ 64 - 1
-    → ◌≡◌ {A = Notes} (record { reference = held; places = now; next = last; end = end }) (shown notes_after always_on (record { reference = reference; places = places; next = at; end = Tail }) links)
+    → ◌≡◌ {A = Notes} (record { reference = held; places = now; next = last; end = end })
+    (shown notes_after always_on (record { reference = reference; places = places; next = at; end = Tail }) links)
     → (reference ≡ held → final ≡ now) → HaveNoted at (tails_of links) places final last
 tails_at_last reference held places now final at last end links small e follows = noted_at_last reference held places now final at last Tail end links small e follows

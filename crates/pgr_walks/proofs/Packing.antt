@@ -1,8 +1,7 @@
 -- Lists in one list, one after another.
-use Rattle.std.proofs.Common.{◌≡◌, ℕ, ◌+◌, ◌-◌, ◌^◌, ◌<◌, ◌≤◌, ◌++◌, ◌⊎◌, inl, inr, List, [], ◌∷◌, length, take, drop, get_or, map, refl, ap, ◌∙◌, sym, subst, arith}
-use Rattle.std.specs.List.{range_with_len}
+use Rattle.std.proofs.Common.{◌≡◌, ℕ, ◌+◌, ◌-◌, ◌^◌, ◌<◌, ◌≤◌, ◌++◌, ◌⊎◌, inl, inr, List, [], ◌∷◌, length, take, drop, get_or, refl, ap, ◌∙◌, sym, subst, arith}
 use Rattle.std.proofs.lemmas.Bool.{cases_lt}
-use Rattle.std.proofs.lemmas.List.{append_assoc, length-append, get_or_append_left, get_or_push, drop-append-le, take-append-le, drop_at, take_all, length-drop, length-map}
+use Rattle.std.proofs.lemmas.List.{append_assoc, length-append, get_or_append_left, get_or_push, drop-append-le, take-append-le, drop_at, take_all, length-drop}
 use Rattle.std.proofs.lemmas.List.FromFn.{length-map-range_with_len, get_or-map-range_with_len}
 use Rattle.pgr_walks.specs.Ends.{piece, pieces, ArePlaces, AreListsOf}
 
@@ -90,7 +89,8 @@ module _ (of : ℕ → List ℕ) (n : ℕ) (starts items ys : List ℕ) (here : 
   }
 
 -- one list more, as the code makes it
-pub AreUpTo-more : (of : ℕ → List ℕ) (n : ℕ) (starts items starts' items' ys : List ℕ) (last : ℕ) → AreUpTo of n starts items → ys ≡ of n → items' ≡ items ++ ys → last ≡ length items' → starts' ≡ starts ++ last ∷ [] → AreUpTo of (n + 1) starts' items'
+pub AreUpTo-more : (of : ℕ → List ℕ) (n : ℕ) (starts items starts' items' ys : List ℕ) (last : ℕ) → AreUpTo of n starts items → ys ≡ of n → items' ≡ items ++ ys
+    → last ≡ length items' → starts' ≡ starts ++ last ∷ [] → AreUpTo of (n + 1) starts' items'
 unfolding grown
 AreUpTo-more of n starts items starts' items' ys last h here e at f =
     let starts_are : starts' ≡ starts ++ length (items ++ ys) ∷ [] = f ∙ ap (λ x. starts ++ x ∷ []) (at ∙ ap length e) in

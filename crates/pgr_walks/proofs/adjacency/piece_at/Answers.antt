@@ -1,4 +1,4 @@
-use Rattle.std.proofs.Common.{◌≤◌, rules, arith}
+use Rattle.std.proofs.Common.{arith}
 use Rattle.pgr_walks.proofs.adjacency.piece_at.Goals as goal
 
 pub slice_bounds-result-start : goal.slice_bounds-result-start

@@ -1,6 +1,6 @@
-use Rattle.std.proofs.Common.{◌≡◌, ◌++◌, rules, arith, refl}
-use Rattle.pgr_walks.specs.Ends.{heads_of, tails_of}
-use Rattle.pgr_walks.proofs.Packing.{AreUpTo-more, ArePlaces-from_all, AreListsOf-from_all}
+use Rattle.std.proofs.Common.{rules, arith, refl}
+use Rattle.pgr_walks.specs.Ends.{heads_of}
+use Rattle.pgr_walks.proofs.Packing.{AreUpTo-more, AreListsOf-from_all}
 use Rattle.pgr_walks.proofs.adjacency.Adjacency.heads.Goals as goal
 
 pub loop-v-preserved : goal.loop-v-preserved

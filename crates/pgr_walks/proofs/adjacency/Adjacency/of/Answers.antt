@@ -1,4 +1,4 @@
-use Rattle.std.proofs.Common.{◌≡◌, ◌<◌, ◌+◌, [], length, get_or, ap, ◌∙◌, arith}
+use Rattle.std.proofs.Common.{◌≡◌, [], length, get_or, ap, ◌∙◌, arith}
 use Rattle.pgr_walks.specs.Ends.{piece, pieces}
 use Rattle.pgr_walks.proofs.Packing.{piece_at, length-pieces}
 use Rattle.pgr_walks.proofs.adjacency.Adjacency.of.Goals as goal
