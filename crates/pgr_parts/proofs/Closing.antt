@@ -1,17 +1,16 @@
 -- A last group without a lead is a class: its vertices get its name, and the search stays sound.
-use Rattle.std.proofs.Common.{◌≡◌, ℕ, ◌+◌, ◌-◌, ◌*◌, ◌<◌, ◌≤◌, ◌++◌, ◌⊎◌, inl, inr, ⊎_elim, List, [], ◌∷◌, Contains, length, get_or, take, drop, refl, sym, ap, ◌∙◌, subst, subst₂, arith, count_by}
+use Rattle.std.proofs.Common.{◌≡◌, ℕ, ◌+◌, ◌-◌, ◌<◌, ◌≤◌, ◌++◌, ◌⊎◌, inl, inr, ⊎_elim, List, [], ◌∷◌, Contains, length, get_or, take, drop, refl, sym, ap, ◌∙◌, subst, subst₂, arith}
 use Rattle.std.specs.List.{AllPairs}
 use Rattle.std.proofs.lemmas.Bool.{cases_lt}
 use Rattle.std.proofs.lemmas.List.{get_or-take, length-take, get_or-drop, length-drop, get_or_append_left, get_or_push, length-append, get_or_default, take_all, take_more}
-use Rattle.std.proofs.lemmas.List.Elements.{Contains-push_cases, Contains-push, Contains-append_left, Contains-get_or}
+use Rattle.std.proofs.lemmas.List.Elements.{Contains-push_cases, Contains-push, Contains-append_left}
 use Rattle.pgr_parts.specs.declared.standing.Standing.{Standing}
 use Rattle.pgr_parts.specs.declared.standing.Standing.TheVariants.{Unseen, Waiting, Named}
 use Rattle.pgr_parts.specs.declared.lead.Lead.{Lead}
-use Rattle.pgr_parts.specs.Standings.{is_unseen, AreNamed}
 use Rattle.pgr_parts.specs.Trails.{Leads, LeadBothWays}
-use Rattle.pgr_parts.specs.Grouping.{State, standing_of, IsNoEarlier, IsSound, HasFollowed, AllFollowed, HasNoLead, IsClosed, StaysFound, IsSearching}
+use Rattle.pgr_parts.specs.Grouping.{State, standing_of, IsNoEarlier, IsSound, HasFollowed, AllFollowed, HasNoLead, IsClosed, StaysFound}
 use Rattle.pgr_parts.proofs.TrailLemmas.{stays_along}
-use Rattle.pgr_parts.proofs.Places.{standing_cases, at_zero, before_last}
+use Rattle.pgr_parts.proofs.Places.{standing_cases, before_last}
 
 module _ (lists : List (List ℕ)) (S S' : State) (s : IsSound lists S) (all : AllFollowed lists S) (c : IsClosed S S') (none : HasNoLead S) where
   f : ℕ
@@ -56,7 +55,8 @@ module _ (lists : List (List ℕ)) (S S' : State) (s : IsSound lists S) (all : A
       let here = there.2 in
       let from : lead.from ≤ last.from = ⊎_elim
       (λ (lt : there.0 < count). (let e = ap (λ (l : Lead). l.from) here in omega (arith, s.in_order there.0 count lead lt (omega (arith, there.1)))))
-      (λ (ge : count ≤ there.0). (let same : there.0 ≡ count = omega (arith, there.1) in let e : last.from ≡ lead.from = ap (λ (l : Lead). l.from) (ap (λ n. get_or S.leads n lead) (sym same) ∙ here) in omega arith)) (cases_lt there.0 count) in
+      (λ (ge : count ≤ there.0). (let same : there.0 ≡ count = omega (arith, there.1) in
+      let e : last.from ≡ lead.from = ap (λ (l : Lead). l.from) (ap (λ n. get_or S.leads n lead) (sym same) ∙ here) in omega arith)) (cases_lt there.0 count) in
       omega (arith, last_first)
     where
       split_last : (xs : List Lead) (d : Lead) → 0 < length xs → xs ≡ take (length xs - 1) xs ++ get_or xs (length xs - 1) d ∷ []
@@ -104,11 +104,13 @@ module _ (lists : List (List ℕ)) (S S' : State) (s : IsSound lists S) (all : A
   was : (v m : ℕ) → standing_of S' v ≡ Named m → (standing_of S v ≡ Named m) ⊎ ((m ≡ c.least) × Contains (drop f S.path) v)
   was v m is = by (standing_cases (standing_of S v))
     where
-      by : (standing_of S v ≡ Unseen) ⊎ (((p : ℕ) × (standing_of S v ≡ Waiting p)) ⊎ ((n : ℕ) × (standing_of S v ≡ Named n))) → (standing_of S v ≡ Named m) ⊎ ((m ≡ c.least) × Contains (drop f S.path) v)
+      by : (standing_of S v ≡ Unseen) ⊎ (((p : ℕ) × (standing_of S v ≡ Waiting p)) ⊎ ((n : ℕ) × (standing_of S v ≡ Named n))) → (standing_of S v ≡ Named m)
+          ⊎ ((m ≡ c.least) × Contains (drop f S.path) v)
       by (inl e) = absurd (let clash : Unseen ≡ Named m = sym (unseen_stays v e) ∙ is in cc)
       by (inr (inl e)) = ⊎_elim
           (λ (lt : e.0 < f). absurd (let clash : Waiting e.0 ≡ Named m = sym (earlier_stays v e.0 e.1 lt) ∙ is in cc))
-          (λ (ge : f ≤ e.0). (let both : Named c.least ≡ Named m = sym (named_now v e.0 e.1 ge) ∙ is in let same : m ≡ c.least = cc in inr (same, member_at v e.0 e.1 ge))) (cases_lt e.0 f)
+          (λ (ge : f ≤ e.0). (let both : Named c.least ≡ Named m = sym (named_now v e.0 e.1 ge) ∙ is in let same : m ≡ c.least = cc in inr (same, member_at v e.0 e.1 ge)))
+          (cases_lt e.0 f)
       by (inr (inr e)) = (let both : Named e.0 ≡ Named m = sym (named_stays v e.0 e.1) ∙ is in let same : e.0 ≡ m = cc in inl (e.1 ∙ ap Named same))
 
   -- named, or in the last group
@@ -143,7 +145,8 @@ module _ (lists : List (List ℕ)) (S S' : State) (s : IsSound lists S) (all : A
   class_is v u there both =
       let at = member_waits v there in
       ⊎_elim
-      (λ (named : (m : ℕ) × (standing_of S u ≡ Named m)). (let back : (m : ℕ) × (standing_of S v ≡ Named m) = stays_along lists IsNamed named_closed u v both.1 named in let clash : Waiting at.0 ≡ Named back.0 = sym at.1.1 ∙ back.1 in absurd (cc)))
+      (λ (named : (m : ℕ) × (standing_of S u ≡ Named m)). (let back : (m : ℕ) × (standing_of S v ≡ Named m) = stays_along lists IsNamed named_closed u v both.1 named in
+      let clash : Waiting at.0 ≡ Named back.0 = sym at.1.1 ∙ back.1 in absurd (cc)))
       (λ (waits : (p : ℕ) × ((standing_of S u ≡ Waiting p) × (f ≤ p))). member_at u waits.0 waits.1.0 waits.1.1)
       (stays_along lists IsInner inner_closed v u both.0 (inr (at.0, (at.1.1, at.1.0))))
 
@@ -214,7 +217,8 @@ module _ (lists : List (List ℕ)) (S S' : State) (s : IsSound lists S) (all : A
 
   new_named_closed : (v m w : ℕ) → standing_of S' v ≡ Named m → Contains (get_or lists v []) w → (k : ℕ) × (standing_of S' w ≡ Named k)
   unfolding IsInner
-  new_named_closed v m w is there = inner_named w (inner_closed v w (⊎_elim (λ named. inl (m, named)) (λ member. (let at = member_waits v member.1 in inr (at.0, (at.1.1, at.1.0)))) (was v m is)) there)
+  new_named_closed v m w is there = inner_named w (inner_closed v w
+      (⊎_elim (λ named. inl (m, named)) (λ member. (let at = member_waits v member.1 in inr (at.0, (at.1.1, at.1.0)))) (was v m is)) there)
 
   new_named_well : (v m : ℕ) → standing_of S' v ≡ Named m → LeadBothWays lists v m
   new_named_well v m is = ⊎_elim (λ named. s.named_well v m named)

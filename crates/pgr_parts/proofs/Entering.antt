@@ -1,16 +1,16 @@
 -- A vertex that was found becomes a group of its own: the search stays sound.
-use Rattle.std.proofs.Common.{◌≡◌, ℕ, ◌+◌, ◌-◌, ◌*◌, ◌<◌, ◌≤◌, ◌++◌, ◌⊎◌, inl, inr, ⊎_elim, List, [], ◌∷◌, Contains, length, get_or, set, map, refl, sym, ap, ◌∙◌, subst, subst₂, arith, cond, count_by}
-use Rattle.std.specs.List.{sum_by, AllPairs}
+use Rattle.std.proofs.Common.{◌≡◌, ℕ, ◌+◌, ◌-◌, ◌<◌, ◌≤◌, ◌++◌, ◌⊎◌, inl, inr, ⊎_elim, List, [], ◌∷◌, Contains, length, get_or, set, refl, sym, ap, ◌∙◌, subst, subst₂, arith, cond, count_by}
+use Rattle.std.specs.List.{AllPairs}
 use Rattle.std.proofs.lemmas.Bool.{cases_eq, cases_lt}
-use Rattle.std.proofs.lemmas.List.{get_or-set_same, get_or-set_other, length-set, get_or_append_left, get_or_push, get_or-append_right, length-append, length-map, get_or-map}
+use Rattle.std.proofs.lemmas.List.{get_or-set_same, get_or-set_other, length-set, get_or_append_left, get_or_push, get_or-append_right, length-append}
 use Rattle.std.proofs.lemmas.List.Elements.{Contains-push_cases, Contains-push, Contains-append_left, Contains-append_right, Contains-append_cases, Contains-get_or}
-use Rattle.std.proofs.lemmas.List.Sums.{sum_by-set, get_or-le-sum_by}
+use Rattle.std.proofs.lemmas.List.Sums.{sum_by-set}
 use Rattle.pgr_parts.specs.declared.standing.Standing.{Standing}
 use Rattle.pgr_parts.specs.declared.standing.Standing.TheVariants.{Unseen, Waiting, Named}
 use Rattle.pgr_parts.specs.declared.lead.Lead.{Lead}
 use Rattle.pgr_parts.specs.Standings.{is_unseen, leads_from_place}
-use Rattle.pgr_parts.specs.Trails.{Leads, LeadBothWays}
-use Rattle.pgr_parts.specs.Grouping.{State, standing_of, IsNoEarlier, IsSound, HasFollowed, AllFollowed, AllFollowedBut, IsSearching, StaysFound, IsFound, IsEntered, work}
+use Rattle.pgr_parts.specs.Trails.{Leads}
+use Rattle.pgr_parts.specs.Grouping.{State, standing_of, IsNoEarlier, IsSound, HasFollowed, AllFollowed, AllFollowedBut, StaysFound, IsFound, IsEntered}
 use Rattle.pgr_parts.proofs.TrailLemmas.{leads_to_itself}
 use Rattle.pgr_parts.proofs.WalksAndTrails.{Contains-map, Contains-from_map}
 
@@ -51,7 +51,8 @@ module _ (lists : List (List ℕ)) (S : State) (s : IsSound lists S) (v : ℕ) (
   -- what is named now was named
   was_named : (u m : ℕ) → standing_of T u ≡ Named m → standing_of S u ≡ Named m
   unfolding k
-  was_named u m is = ⊎_elim (λ (same : u ≡ v). (let clash : Waiting (length S.path) ≡ Named m = sym here ∙ ap (standing_of T) (sym same) ∙ is in absurd (cc))) (λ ne. sym (elsewhere u ne) ∙ is) (cases_eq u v)
+  was_named u m is = ⊎_elim (λ (same : u ≡ v). (let clash : Waiting (length S.path) ≡ Named m = sym here ∙ ap (standing_of T) (sym same) ∙ is in absurd (cc)))
+      (λ ne. sym (elsewhere u ne) ∙ is) (cases_eq u v)
 
   old_place : (p : ℕ) → p < k → get_or T.path p 0 ≡ get_or S.path p 0
   unfolding k
@@ -99,7 +100,8 @@ module _ (lists : List (List ℕ)) (S : State) (s : IsSound lists S) (v : ℕ) (
 
   new_on_path : (u p : ℕ) → standing_of T u ≡ Waiting p → (p < length T.path) × (get_or T.path p 0 ≡ u)
   new_on_path u p is = ⊎_elim
-      (λ (same : u ≡ v). (let e : Waiting k ≡ Waiting p = sym here ∙ (ap (standing_of T) (sym same) ∙ is) in let at : k ≡ p = cc in (omega (arith, size), ap (λ x. get_or T.path x 0) (sym at) ∙ (new_place ∙ sym same))))
+      (λ (same : u ≡ v). (let e : Waiting k ≡ Waiting p = sym here ∙ (ap (standing_of T) (sym same) ∙ is) in let at : k ≡ p = cc in
+      (omega (arith, size), ap (λ x. get_or T.path x 0) (sym at) ∙ (new_place ∙ sym same))))
       (λ ne. (let old = s.on_path u p (sym (elsewhere u ne) ∙ is) in let lt : p < k = in_k p old.0 in (omega (arith, size), old_place p lt ∙ old.1))) (cases_eq u v)
 
   first_size : length T.firsts ≡ length S.firsts + 1
@@ -115,14 +117,16 @@ module _ (lists : List (List ℕ)) (S : State) (s : IsSound lists S) (v : ℕ) (
   new_rising : (i j : ℕ) → i < j → j < length T.firsts → get_or T.firsts i 0 < get_or T.firsts j 0
   new_rising i j before lt = ⊎_elim
       (λ (old : j < length S.firsts). omega (arith, old_first_at i (omega arith), old_first_at j old, s.rising i j before old))
-      (λ (past : length S.firsts ≤ j). (let is : j ≡ length S.firsts = omega (arith, first_size) in let inner : get_or S.firsts i 0 < k = in_k _ (s.inside _ (Contains-get_or S.firsts i 0 (omega arith))) in
+      (λ (past : length S.firsts ≤ j). (let is : j ≡ length S.firsts = omega (arith, first_size) in
+      let inner : get_or S.firsts i 0 < k = in_k _ (s.inside _ (Contains-get_or S.firsts i 0 (omega arith))) in
       subst (λ x. get_or T.firsts i 0 < get_or T.firsts x 0) (sym is) (omega (arith, old_first_at i (omega arith), new_first_at)))) (cases_lt j (length S.firsts))
 
   new_inside : (f : ℕ) → Contains T.firsts f → f < length T.path
   new_inside f there = ⊎_elim (λ old. (let lt = in_k f (s.inside f old) in omega (arith, size))) (λ (is : k ≡ f). omega (arith, size)) (first_cases f there)
 
   new_from_start : Contains T.firsts 0
-  new_from_start = ⊎_elim (λ (some : 0 < k). old_first 0 (s.from_start (from_k 0 some))) (λ (none : k ≤ 0). (let is : k ≡ 0 = omega arith in subst (Contains T.firsts) is k_first)) (cases_lt 0 k)
+  new_from_start = ⊎_elim (λ (some : 0 < k). old_first 0 (s.from_start (from_k 0 some)))
+      (λ (none : k ≤ 0). (let is : k ≡ 0 = omega arith in subst (Contains T.firsts) is k_first)) (cases_lt 0 k)
 
   -- later groups among the old ones
   weaker : (p q : ℕ) → IsNoEarlier T p q → IsNoEarlier S p q
@@ -145,8 +149,13 @@ module _ (lists : List (List ℕ)) (S : State) (s : IsSound lists S) (v : ℕ) (
 
   new_lead_is : (lead : Lead) → Contains T.leads lead → (lead.from < length T.path) × Contains (get_or lists (get_or T.path lead.from 0) []) lead.to
   new_lead_is lead there = ⊎_elim
-      (λ old. (let is = s.lead_is lead old in let lt = in_k lead.from is.0 in (omega (arith, size), subst (λ x. Contains (get_or lists x []) lead.to) (sym (old_place lead.from lt)) is.1)))
-      (λ new. (let is = new_lead lead new in (omega (arith, size, is.0), subst (λ x. Contains (get_or lists x []) lead.to) (sym (ap (λ x. get_or T.path x 0) is.0 ∙ new_place)) is.1))) (lead_cases lead there)
+      (λ old. (let is = s.lead_is lead old in let lt = in_k lead.from is.0 in
+      (omega (arith, size), subst (λ x. Contains (get_or lists x []) lead.to) (sym (old_place lead.from lt)) is.1)))
+      (λ new. (let is = new_lead lead new in (
+        omega (arith, size, is.0),
+        subst (λ x. Contains (get_or lists x []) lead.to)
+            (sym (ap (λ x. get_or T.path x 0) is.0 ∙ new_place)) is.1,
+      ))) (lead_cases lead there)
 
   -- the place of a lead
   old_lead_at : (i : ℕ) (d : Lead) → i < length S.leads → get_or T.leads i d ≡ get_or S.leads i d
@@ -167,7 +176,8 @@ module _ (lists : List (List ℕ)) (S : State) (s : IsSound lists S) (v : ℕ) (
 
   new_in_order : AllPairs (λ (a b : Lead). a.from ≤ b.from) T.leads
   new_in_order i j d before lt = ⊎_elim
-      (λ (old : j < length S.leads). (let e = ap (λ (l : Lead). l.from) (old_lead_at i d (omega arith)) in let f = ap (λ (l : Lead). l.from) (old_lead_at j d old) in omega (arith, s.in_order i j d before old)))
+      (λ (old : j < length S.leads). (let e = ap (λ (l : Lead). l.from) (old_lead_at i d (omega arith)) in let f = ap (λ (l : Lead). l.from) (old_lead_at j d old) in
+      omega (arith, s.in_order i j d before old)))
       (λ (past : length S.leads ≤ j). omega (arith, all_leads i d (omega arith), late_leads j d past lt)) (cases_lt j (length S.leads))
 
   new_named_closed : (u m w : ℕ) → standing_of T u ≡ Named m → Contains (get_or lists u []) w → (n : ℕ) × (standing_of T w ≡ Named n)
@@ -204,10 +214,14 @@ module _ (lists : List (List ℕ)) (S : State) (s : IsSound lists S) (v : ℕ) (
   }
 
   -- an old place has followed what it had, and the vertex that was entered
-  old_followed : (p w : ℕ) → p < k → (HasFollowed S p w ⊎ Contains S.leads (record { from = p; to = w })) ⊎ ((w ≡ v) × ((f : ℕ) → Contains S.firsts f → f ≤ p)) → HasFollowed T p w ⊎ Contains T.leads (record { from = p; to = w })
+  old_followed : (p w : ℕ) → p < k → (HasFollowed S p w ⊎ Contains S.leads (record { from = p; to = w })) ⊎ ((w ≡ v) × ((f : ℕ) → Contains S.firsts f → f ≤ p))
+      → HasFollowed T p w ⊎ Contains T.leads (record { from = p; to = w })
   unfolding k
   old_followed p w lt (inl (inl (inl named))) = inl (inl (named.0, kept w (Named named.0) (λ e. (cc)) named.1))
-  old_followed p w lt (inl (inl (inr found))) = inl (inr (found.0, (kept w (Waiting found.0) (λ e. (cc)) found.1.0, (λ f there le. ⊎_elim (λ old. found.1.1 f old le) (λ is. absurd (omega arith)) (first_cases f there)))))
+  old_followed p w lt (inl (inl (inr found))) = inl (inr (
+    found.0,
+    (kept w (Waiting found.0) (λ e. (cc)) found.1.0, (λ f there le. ⊎_elim (λ old. found.1.1 f old le) (λ is. absurd (omega arith)) (first_cases f there))),
+  ))
   old_followed p w lt (inl (inr lead)) = inr (Contains-append_left S.leads (leads_from_place (length S.path) (get_or lists v [])) (record { from = p; to = w }) lead)
   old_followed p w lt (inr same) = inl (inr (k, (ap (standing_of T) same.0 ∙ here, (λ f there le. omega arith))))
 
@@ -220,7 +234,8 @@ module _ (lists : List (List ℕ)) (S : State) (s : IsSound lists S) (v : ℕ) (
       by (inr is) =
           let listed : Contains (get_or lists v []) w = subst (λ x. Contains (get_or lists x []) w) (ap (λ x. get_or T.path x 0) is ∙ new_place) there in
           let new = Contains-map (λ (x : ℕ). record { from = k; to = x }) (get_or lists v []) w listed in
-          inr (subst (λ x. Contains T.leads (record { from = x; to = w })) (sym is) (Contains-append_right S.leads (leads_from_place (length S.path) (get_or lists v [])) (record { from = k; to = w }) new))
+          inr (subst (λ x. Contains T.leads (record { from = x; to = w })) (sym is)
+          (Contains-append_right S.leads (leads_from_place (length S.path) (get_or lists v [])) (record { from = k; to = w }) new))
 
   pub entered_found : StaysFound S T
   entered_found u is = ⊎_elim (λ (same : u ≡ v). ap (standing_of S) same ∙ unseen) (λ ne. sym (elsewhere u ne) ∙ is) (cases_eq u v)

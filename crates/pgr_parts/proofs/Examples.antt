@@ -1,5 +1,5 @@
 -- Small cases of classes and their names, computed.
-use Rattle.std.proofs.Common.{◌≡◌, ℕ, ℤ, pos, ◌<◌, ◌≤◌, List, [], ◌∷◌, refl, sym, subst, arith, inl, inr}
+use Rattle.std.proofs.Common.{◌≡◌, ℕ, pos, ◌≤◌, List, [], ◌∷◌, refl, sym, subst, arith, inl, inr}
 use Rattle.std.specs.Prelude.{Contains}
 use Rattle.std.specs.List.{AllByRecursion}
 use Rattle.std.specs.Ordering.{nat_cmp}
@@ -38,7 +38,8 @@ the_cycle_is_named_by_2 = record {
     -- what reaches 3 is no less than 2, since from 1 no link leads on
     far : (u : ℕ) → Reaches (Contains bridge) u 3 → 2 ≤ u
     far u reaches = elim (cases_lt u 2) [
-      | inl small ↦ absurd (let stuck : 3 ≤ 1 = kept_by bridge (λ v. v ≤ 1) ((λ h. absurd (omega arith)), ((λ h. absurd (omega arith)), ((λ h. absurd (omega arith)), ((λ h. omega arith), tt)))) u 3 reaches (omega arith) in omega arith)
+      | inl small ↦ absurd (let stuck : 3 ≤ 1 = kept_by bridge (λ v. v ≤ 1)
+          ((λ h. absurd (omega arith)), ((λ h. absurd (omega arith)), ((λ h. absurd (omega arith)), ((λ h. omega arith), tt)))) u 3 reaches (omega arith) in omega arith)
       | inr large ↦ large
     ]
 
@@ -46,7 +47,8 @@ the_cycle_is_named_by_2 = record {
 the_end_of_a_bridge_is_alone : IsClassName nat_cmp (StronglyConnected (Contains bridge)) 1 1
 the_end_of_a_bridge_is_alone = record {
   member = (([], refl), ([], refl));
-  least = λ u both. not_greater 1 u (let is : 1 ≡ u = kept_by bridge (λ v. 1 ≡ v) ((λ h. absurd (omega arith)), ((λ h. absurd (omega arith)), ((λ h. absurd (omega arith)), ((λ h. refl), tt)))) 1 u both.0 refl in omega arith);
+  least = λ u both. not_greater 1 u (let is : 1 ≡ u = kept_by bridge (λ v. 1 ≡ v)
+      ((λ h. absurd (omega arith)), ((λ h. absurd (omega arith)), ((λ h. absurd (omega arith)), ((λ h. refl), tt)))) 1 u both.0 refl in omega arith);
 }
 
 -- a vertex without links is a class of its own, strong and connected
@@ -65,7 +67,10 @@ the_bridge_joins = record {
   where
     ends : (l : LinkOf ℕ) → Contains bridge l → (1 ≤ l.from) × (1 ≤ l.to)
     ends l has = All-contains (λ x. (1 ≤ x.from) × (1 ≤ x.to)) bridge l
-        (All-from_recursion (λ x. (1 ≤ x.from) × (1 ≤ x.to)) bridge ((omega arith, omega arith), ((omega arith, omega arith), ((omega arith, omega arith), ((omega arith, omega arith), tt))))) has
+        (All-from_recursion (λ x. (1 ≤ x.from) × (1 ≤ x.to)) bridge (
+          (omega arith, omega arith),
+          ((omega arith, omega arith), ((omega arith, omega arith), ((omega arith, omega arith), tt))),
+        )) has
 
     step : (l : LinkOf ℕ) → BothWays (Contains bridge) l → 1 ≤ l.from → 1 ≤ l.to
     step l (inl has) h = (ends l has).1

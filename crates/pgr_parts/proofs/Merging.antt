@@ -1,10 +1,8 @@
 -- A vertex that stands on the path was led to again: the groups from its own on become one, and the search stays sound.
-use Rattle.std.proofs.Common.{◌≡◌, ℕ, ◌+◌, ◌*◌, ◌<◌, ◌≤◌, ◌⊎◌, inl, inr, ⊎_elim, List, [], Contains, length, get_or, take, refl, sym, ap, ◌∙◌, subst, arith, count_by, min}
+use Rattle.std.proofs.Common.{◌≡◌, ℕ, ◌<◌, ◌≤◌, ◌⊎◌, inl, inr, ⊎_elim, List, Contains, length, get_or, take, sym, ap, ◌∙◌, subst, arith}
 use Rattle.std.proofs.lemmas.Bool.{cases_lt}
 use Rattle.std.proofs.lemmas.List.{get_or-take, length-take, get_or_default}
-use Rattle.pgr_parts.specs.declared.standing.Standing.{Standing}
-use Rattle.pgr_parts.specs.declared.standing.Standing.TheVariants.{Unseen, Waiting, Named}
-use Rattle.pgr_parts.specs.declared.lead.Lead.{Lead}
+use Rattle.pgr_parts.specs.declared.standing.Standing.TheVariants.{Waiting}
 use Rattle.pgr_parts.specs.Trails.{Leads}
 use Rattle.pgr_parts.specs.Grouping.{State, standing_of, IsNoEarlier, IsSound, HasFollowed, AllFollowed, AllFollowedBut, IsMerged}
 use Rattle.pgr_parts.proofs.TrailLemmas.{leads_on}
@@ -69,7 +67,8 @@ module _ (lists : List (List ℕ)) (S : State) (s : IsSound lists S) (w q count 
     room = s.room;
   }
 
-  by_case : (p x : ℕ) → (HasFollowed S p x ⊎ Contains S.leads (record { from = p; to = x })) ⊎ ((x ≡ w) × ((f : ℕ) → Contains S.firsts f → f ≤ p)) → HasFollowed (merged count S) p x ⊎ Contains S.leads (record { from = p; to = x })
+  by_case : (p x : ℕ) → (HasFollowed S p x ⊎ Contains S.leads (record { from = p; to = x })) ⊎ ((x ≡ w) × ((f : ℕ) → Contains S.firsts f → f ≤ p))
+      → HasFollowed (merged count S) p x ⊎ Contains S.leads (record { from = p; to = x })
   by_case p x (inl (inl (inl named))) = inl (inl named)
   by_case p x (inl (inl (inr found))) = inl (inr (found.0, (found.1.0, weaker p found.0 found.1.1)))
   by_case p x (inl (inr lead)) = inr lead

@@ -1,7 +1,7 @@
 -- How members get a name, one after another.
-use Rattle.std.proofs.Common.{◌≡◌, ℕ, ◌+◌, ◌<◌, ◌≤◌, ◌⊎◌, inl, inr, ⊎_elim, List, Contains, length, get_or, set, refl, sym, ap, ◌∙◌, subst, arith, cond, count_by}
+use Rattle.std.proofs.Common.{◌≡◌, ℕ, ◌+◌, ◌<◌, ◌≤◌, ⊎_elim, List, Contains, length, get_or, set, refl, sym, ap, ◌∙◌, subst, arith, cond, count_by}
 use Rattle.std.proofs.lemmas.Bool.{cases_lt, cases_eq}
-use Rattle.std.proofs.lemmas.List.{get_or-set_same, get_or-set_other, length-set, get_or_default}
+use Rattle.std.proofs.lemmas.List.{get_or-set_same, get_or-set_other, length-set}
 use Rattle.std.proofs.lemmas.List.Elements.{Contains-get_or}
 use Rattle.std.proofs.lemmas.List.Sums.{sum_by-set}
 use Rattle.pgr_parts.specs.declared.standing.Standing.{Standing}
@@ -19,7 +19,8 @@ pub record AreNamedUpTo (members : List ℕ) (n name : ℕ) (before now : List S
 pub AreNamedUpTo-none : (members : List ℕ) (name : ℕ) (before : List Standing) → AreNamedUpTo members 0 name before before
 AreNamedUpTo-none members name before = record { size_is = refl; named = λ k lt. absurd (omega arith); others = λ v none. refl; fewer = omega arith }
 
-pub AreNamedUpTo-more : (members : List ℕ) (n name v : ℕ) (before now : List Standing) → AreNamedUpTo members n name before now → n < length members → v ≡ get_or members n 0 → v < length before → AreNamedUpTo members (n + 1) name before (set now v (Named name))
+pub AreNamedUpTo-more : (members : List ℕ) (n name v : ℕ) (before now : List Standing) → AreNamedUpTo members n name before now → n < length members → v ≡ get_or members n 0
+    → v < length before → AreNamedUpTo members (n + 1) name before (set now v (Named name))
 AreNamedUpTo-more members n name v before now h inside is below = record {
   size_is = length-set now v (Named name) ∙ h.size_is;
   named = λ k lt. ⊎_elim (λ (same : get_or members k 0 ≡ v). ap (λ x. get_or (set now v (Named name)) x Unseen) same ∙ here)
@@ -36,7 +37,8 @@ AreNamedUpTo-more members n name v before now h inside is below = record {
     earlier : (k : ℕ) → k < n + 1 → (get_or members k 0 ≡ v → ⊥) → k < n
     earlier k lt differs = ⊎_elim (λ less. less) (λ (ge : n ≤ k). absurd (differs (let same : k ≡ n = omega arith in ap (λ x. get_or members x 0) same ∙ sym is))) (cases_lt k n)
 
-pub AreNamed-from_all : (members : List ℕ) (n name : ℕ) (before now : List Standing) → AreNamedUpTo members n name before now → length members ≤ n → AreNamed members name before now
+pub AreNamed-from_all : (members : List ℕ) (n name : ℕ) (before now : List Standing) → AreNamedUpTo members n name before now → length members ≤ n
+    → AreNamed members name before now
 AreNamed-from_all members n name before now h past = record {
   size_is = h.size_is;
   named = λ v there. (let at = at_zero members v there in ap (λ x. get_or now x Unseen) (sym at) ∙ h.named there.0 (omega (arith, there.1)));
@@ -45,7 +47,8 @@ AreNamed-from_all members n name before now h past = record {
 }
 
 -- the same lists by other names
-pub AreNamed-same : (members members' : List ℕ) (name : ℕ) (before before' after after' : List Standing) → members ≡ members' → before ≡ before' → after' ≡ after → AreNamed members name before after → AreNamed members' name before' after'
+pub AreNamed-same : (members members' : List ℕ) (name : ℕ) (before before' after after' : List Standing) → members ≡ members' → before ≡ before' → after' ≡ after
+    → AreNamed members name before after → AreNamed members' name before' after'
 AreNamed-same members members' name before before' after after' e f g h =
     let P : List ℕ → Type 0 = λ xs. AreNamed xs name before' after' in
     let Q : List Standing → Type 0 = λ xs. AreNamed members name xs after' in

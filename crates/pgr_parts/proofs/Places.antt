@@ -1,12 +1,10 @@
 -- The path of a search and the places where its groups begin.
-use Rattle.std.proofs.Common.{◌≡◌, ℕ, ◌+◌, ◌-◌, ◌<◌, ◌≤◌, ◌++◌, ◌⊎◌, inl, inr, ⊎_elim, List, [], ◌∷◌, Contains, length, get_or, take, refl, sym, ap, ◌∙◌, subst, arith}
+use Rattle.std.proofs.Common.{◌≡◌, ℕ, ◌+◌, ◌-◌, ◌<◌, ◌≤◌, ◌++◌, ◌⊎◌, inl, inr, ⊎_elim, List, [], ◌∷◌, Contains, length, get_or, take, refl, sym, ap, ◌∙◌, arith}
 use Rattle.std.proofs.lemmas.Bool.{cases_lt}
 use Rattle.std.proofs.lemmas.List.{get_or_past, get_or-take, length-take, get_or_default, length-append, get_or_append_left, get_or_push}
-use Rattle.std.proofs.lemmas.List.Elements.{Contains-get_or, Contains-append_left, Contains-push_cases}
 use Rattle.pgr_parts.specs.declared.standing.Standing.{Standing}
 use Rattle.pgr_parts.specs.declared.standing.Standing.TheVariants.{Unseen, Waiting, Named}
-use Rattle.pgr_parts.specs.Trails.{Leads, LeadBothWays}
-use Rattle.pgr_parts.specs.Grouping.{State, standing_of, IsSound}
+use Rattle.pgr_parts.specs.Grouping.{State, IsSound}
 
 -- how a vertex may stand
 pub standing_cases : (s : Standing) → (s ≡ Unseen) ⊎ (((p : ℕ) × (s ≡ Waiting p)) ⊎ ((m : ℕ) × (s ≡ Named m)))
@@ -31,7 +29,8 @@ pub at_most_last : (xs : List ℕ) → ((i j : ℕ) → i < j → j < length xs 
 at_most_last xs rising x there =
     let here = at_zero xs x there in
     ⊎_elim (λ (lt : there.0 < length xs - 1). omega (arith, rising there.0 (length xs - 1) lt (omega (arith, there.1))))
-    (λ (ge : length xs - 1 ≤ there.0). (let same : there.0 ≡ length xs - 1 = omega (arith, there.1) in let is : get_or xs (length xs - 1) 0 ≡ x = ap (λ k. get_or xs k 0) (sym same) ∙ here in omega arith)) (cases_lt there.0 (length xs - 1))
+    (λ (ge : length xs - 1 ≤ there.0). (let same : there.0 ≡ length xs - 1 = omega (arith, there.1) in
+    let is : get_or xs (length xs - 1) 0 ≡ x = ap (λ k. get_or xs k 0) (sym same) ∙ here in omega arith)) (cases_lt there.0 (length xs - 1))
 
 -- a prefix has what the list has
 pub Contains-take : (n : ℕ) (xs : List ℕ) (x : ℕ) → Contains (take n xs) x → Contains xs x
@@ -43,4 +42,5 @@ module _ (lists : List (List ℕ)) (S : State) (s : IsSound lists S) where
   -- what stands on the path is a vertex
   pub path_below : (p : ℕ) → p < length S.path → get_or S.path p 0 < length lists
   path_below p lt = ⊎_elim (λ (h : get_or S.path p 0 < length S.standing). omega (arith, s.size_is))
-      (λ (past : length S.standing ≤ get_or S.path p 0). (let clash : Unseen ≡ Waiting p = sym (get_or_past S.standing (get_or S.path p 0) Unseen past) ∙ s.stands p lt in absurd (cc))) (cases_lt (get_or S.path p 0) (length S.standing))
+      (λ (past : length S.standing ≤ get_or S.path p 0). (let clash : Unseen ≡ Waiting p = sym (get_or_past S.standing (get_or S.path p 0) Unseen past) ∙ s.stands p lt in
+      absurd (cc))) (cases_lt (get_or S.path p 0) (length S.standing))

@@ -1,11 +1,9 @@
 -- Classes of an equivalence have the same name exactly where they are one class.
-use Rattle.std.proofs.Common.{◌≡◌, ◌≢◌, ℕ, ◌<◌, ◌≤◌, ◌↔◌, ◌⊎◌, inl, inr, ⊎_elim, List, [], ◌∷◌, get_or, refl, sym, ap, ◌∙◌, subst, arith, Greater}
-use Rattle.std.specs.Ordering.{nat_cmp}
-use Rattle.std.proofs.lemmas.Bool.{cases_lt}
+use Rattle.std.proofs.Common.{◌≡◌, ℕ, ◌<◌, ◌≤◌, ◌↔◌, inl, inr, List, [], ◌∷◌, get_or, refl, sym, subst, arith}
 use Rattle.pgr_walks.specs.declared.link.LinkOf.{LinkOf}
 use Rattle.pgr_walks.specs.Walk.{IsWalk}
 use Rattle.pgr_walks.specs.Reaches.{Reaches, turned, BothWays}
-use Rattle.pgr_parts.specs.Classes.{IsClassName, AreClassNames, Connected, StronglyConnected}
+use Rattle.pgr_parts.specs.Classes.{AreClassNames, Connected, StronglyConnected}
 use Rattle.pgr_parts.proofs.Orders.{at_most}
 
 module _ {V : Type 0} (Has : LinkOf V → Type 0) where
@@ -17,7 +15,8 @@ module _ {V : Type 0} (Has : LinkOf V → Type 0) where
   pub reaches_on : (u v w : V) → Reaches Has u v → Reaches Has v w → Reaches Has u w
   reaches_on u v w a b = walk_on u a.0 v w a.1 b
 
-  turned_both : (link : LinkOf V) → BothWays Has link → BothWays Has (turned link)
+  -- links taken both ways, turned
+  pub turned_both : (link : LinkOf V) → BothWays Has link → BothWays Has (turned link)
   turned_both link (inl has) = inr has
   turned_both link (inr has) = inl has
 
@@ -49,3 +48,17 @@ strong_back Has u v h = (h.1, h.0)
 
 pub strong_on : {V : Type 0} (Has : LinkOf V → Type 0) (u v w : V) → StronglyConnected Has u v → StronglyConnected Has v w → StronglyConnected Has u w
 strong_on Has u v w a b = (reaches_on Has u v w a.0 b.0, reaches_on Has w v u b.1 a.1)
+
+module _ {V : Type 0} where
+  walk_over : (A B : LinkOf V → Type 0) → ((link : LinkOf V) → A link → B link) → (u : V) (walk : List (LinkOf V)) (v : V) → IsWalk A u walk v → IsWalk B u walk v
+  walk_over A B each u [] v is = is
+  walk_over A B each u (link ∷ rest) v is = (each link is.0, is.1, walk_over A B each link.to rest v is.2)
+
+  only_way : (Has : LinkOf V → Type 0) → ((link : LinkOf V) → Has link → Has (turned link)) → (link : LinkOf V) → BothWays Has link → Has link
+  only_way Has opposite link (inl has) = has
+  only_way Has opposite link (inr has) = opposite (turned link) has
+
+  -- where each link leads back, walks over the links taken both ways are walks
+  pub connected_reaches : (Has : LinkOf V → Type 0) → ((link : LinkOf V) → Has link → Has (turned link)) → (u v : V) → Connected Has u v ↔ Reaches Has u v
+  connected_reaches Has opposite u v =
+      ((λ h. (h.0, walk_over (BothWays Has) Has (only_way Has opposite) u h.0 v h.1)), (λ h. (h.0, walk_over Has (BothWays Has) (λ link has. inl has) u h.0 v h.1)))

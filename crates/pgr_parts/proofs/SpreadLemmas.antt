@@ -1,5 +1,5 @@
 -- How names spread: what the loop over waiting vertices keeps, one turn of it, and what it leaves.
-use Rattle.std.proofs.Common.{◌≡◌, ℕ, ◌+◌, ◌*◌, ◌<◌, ◌≤◌, ◌++◌, ◌⊎◌, inl, inr, ⊎_elim, List, [], ◌∷◌, Option, Some, None, Contains, length, get_or, set, map, refl, sym, ap, ◌∙◌, subst, subst₂, arith, Greater, unwrap_or, All, IsSome, replicate, cond, count_by}
+use Rattle.std.proofs.Common.{◌≡◌, ℕ, ◌+◌, ◌*◌, ◌<◌, ◌≤◌, ◌++◌, ◌⊎◌, inl, inr, ⊎_elim, List, [], ◌∷◌, Option, Some, None, Contains, length, get_or, set, map, refl, sym, ap, ◌∙◌, subst, subst₂, arith, unwrap_or, All, IsSome, replicate, cond, count_by}
 use Rattle.std.specs.List.{sum_by}
 use Rattle.std.specs.Option.{is_none}
 use Rattle.std.proofs.lemmas.List.Sums.{sum_by-set, get_or-le-sum_by}
@@ -23,7 +23,8 @@ pub record IsSpreading (lists : List (List ℕ)) (root : ℕ) (names : List (Opt
   pub begun : HasName names root ⊎ Contains waiting root
 
 -- the beginning: the root alone waits
-pub spreading_begins : (lists : List (List ℕ)) (root : ℕ) (names : List (Option ℕ)) (waiting old : List ℕ) → root < length lists → AreSpread lists root names → old ≡ [] → waiting ≡ old ++ root ∷ [] → IsSpreading lists root names waiting
+pub spreading_begins : (lists : List (List ℕ)) (root : ℕ) (names : List (Option ℕ)) (waiting old : List ℕ) → root < length lists → AreSpread lists root names → old ≡ []
+    → waiting ≡ old ++ root ∷ [] → IsSpreading lists root names waiting
 spreading_begins lists root names waiting old inside s e f = subst (IsSpreading lists root names) (sym (f ∙ ap (λ xs. xs ++ root ∷ []) e)) (record {
   size_is = s.size_is;
   sound = s.sound;
@@ -37,12 +38,14 @@ spreading_begins lists root names waiting old inside s e f = subst (IsSpreading 
     only w there = ⊎_elim (λ none. absurd (omega (arith, none.1))) (λ is. is) (Contains-push_cases [] root w there)
 
 -- the end: nothing waits
-pub spreading_ends : (lists : List (List ℕ)) (root : ℕ) (names : List (Option ℕ)) (waiting : List ℕ) → IsSpreading lists root names waiting → waiting ≡ [] → AreSpread lists (root + 1) names
+pub spreading_ends : (lists : List (List ℕ)) (root : ℕ) (names : List (Option ℕ)) (waiting : List ℕ) → IsSpreading lists root names waiting → waiting ≡ []
+    → AreSpread lists (root + 1) names
 spreading_ends lists root names waiting s e = record {
   size_is = s.size_is;
   sound = s.sound;
   closed = λ v m w named here. ⊎_elim (λ same. same) (λ other. absurd (none w other.1)) (s.closed v m w named here);
-  below = λ v lt. ⊎_elim (λ before. s.below v before) (λ past. (let is : root ≡ v = omega arith in subst (HasName names) is (⊎_elim (λ has. has) (λ there. absurd (none root there)) s.begun))) (cases_lt v root);
+  below = λ v lt. ⊎_elim (λ before. s.below v before) (λ past.
+      (let is : root ≡ v = omega arith in subst (HasName names) is (⊎_elim (λ has. has) (λ there. absurd (none root there)) s.begun))) (cases_lt v root);
 }
   where
     none : (w : ℕ) → Contains waiting w → ⊥
@@ -78,7 +81,8 @@ module _ (lists : List (List ℕ)) (within : AreWithin lists) (back : AreMutual 
     root_first = ⊎_elim (λ lt. (let has = s.below v lt in let clash : None ≡ Some has.0 = sym fresh ∙ has.1 in absurd (cc))) (λ le. le) (cases_lt v root)
 
     still : (w m : ℕ) → get_or names w None ≡ Some m → get_or now w None ≡ Some m
-    still w m e = ⊎_elim (λ (same : w ≡ v). (let clash : None ≡ Some m = sym fresh ∙ ap (λ x. get_or names x None) (sym same) ∙ e in absurd (cc))) (λ ne. elsewhere w ne ∙ e) (cases_eq w v)
+    still w m e = ⊎_elim (λ (same : w ≡ v). (let clash : None ≡ Some m = sym fresh ∙ ap (λ x. get_or names x None) (sym same) ∙ e in absurd (cc))) (λ ne. elsewhere w ne ∙ e)
+        (cases_eq w v)
 
     fresh_sound : (u m : ℕ) → get_or now u None ≡ Some m → (u ≡ v) ⊎ (u ≡ v → ⊥) → Leads lists m u × (m ≤ u)
     fresh_sound u m e (inl same) =
@@ -90,9 +94,11 @@ module _ (lists : List (List ℕ)) (within : AreWithin lists) (back : AreMutual 
     older : (w m : ℕ) → (get_or names w None ≡ Some m) ⊎ ((m ≡ root) × Contains (rest ++ v ∷ []) w) → (get_or now w None ≡ Some m) ⊎ ((m ≡ root) × Contains after w)
     unfolding after
     older w m (inl same) = inl (still w m same)
-    older w m (inr other) = ⊎_elim (λ there. inr (other.0, Contains-append_left rest (get_or lists v []) w there)) (λ is. inl (ap (λ x. get_or now x None) (sym is) ∙ here ∙ ap Some (sym other.0))) (Contains-push_cases rest v w other.1)
+    older w m (inr other) = ⊎_elim (λ there. inr (other.0, Contains-append_left rest (get_or lists v []) w there))
+        (λ is. inl (ap (λ x. get_or now x None) (sym is) ∙ here ∙ ap Some (sym other.0))) (Contains-push_cases rest v w other.1)
 
-    fresh_closed : (u m w : ℕ) → get_or now u None ≡ Some m → Contains (get_or lists u []) w → (u ≡ v) ⊎ (u ≡ v → ⊥) → (get_or now w None ≡ Some m) ⊎ ((m ≡ root) × Contains after w)
+    fresh_closed : (u m w : ℕ) → get_or now u None ≡ Some m → Contains (get_or lists u []) w → (u ≡ v) ⊎ (u ≡ v → ⊥) → (get_or now w None ≡ Some m)
+        ⊎ ((m ≡ root) × Contains after w)
     unfolding after
     fresh_closed u m w e there (inl same) =
         let name : m ≡ root = (let both : Some root ≡ Some m = sym here ∙ ap (λ x. get_or now x None) (sym same) ∙ e in cc) in
@@ -106,7 +112,8 @@ module _ (lists : List (List ℕ)) (within : AreWithin lists) (back : AreMutual 
     fresh_begun : HasName names root ⊎ Contains (rest ++ v ∷ []) root → HasName now root ⊎ Contains after root
     unfolding after
     fresh_begun (inl has) = inl (has.0, still root has.0 has.1)
-    fresh_begun (inr there) = ⊎_elim (λ old. inr (Contains-append_left rest (get_or lists v []) root old)) (λ is. inl (root, ap (λ x. get_or now x None) (sym is) ∙ here)) (Contains-push_cases rest v root there)
+    fresh_begun (inr there) = ⊎_elim (λ old. inr (Contains-append_left rest (get_or lists v []) root old)) (λ is. inl (root, ap (λ x. get_or now x None) (sym is) ∙ here))
+        (Contains-push_cases rest v root there)
 
     fresh_turn : IsSpreading lists root now after
     unfolding now after
@@ -122,14 +129,16 @@ module _ (lists : List (List ℕ)) (within : AreWithin lists) (back : AreMutual 
   -- a vertex with a name leaves all as it was
   module _ (m : ℕ) (named : get_or names v None ≡ Some m) where
     -- what is named by the root and has v on its list gives v the root's name
-    settled : (u k w : ℕ) → get_or names u None ≡ Some k → Contains (get_or lists u []) w → (get_or names w None ≡ Some k) ⊎ ((k ≡ root) × Contains (rest ++ v ∷ []) w) → (get_or names w None ≡ Some k) ⊎ ((k ≡ root) × Contains rest w)
+    settled : (u k w : ℕ) → get_or names u None ≡ Some k → Contains (get_or lists u []) w → (get_or names w None ≡ Some k) ⊎ ((k ≡ root) × Contains (rest ++ v ∷ []) w)
+        → (get_or names w None ≡ Some k) ⊎ ((k ≡ root) × Contains rest w)
     settled u k w e there (inl same) = inl same
     settled u k w e there (inr other) = ⊎_elim (λ old. inr (other.0, old)) (λ is. inl (by_back u k w e there other.0 is)) (Contains-push_cases rest v w other.1)
       where
         by_back : (u k w : ℕ) → get_or names u None ≡ Some k → Contains (get_or lists u []) w → k ≡ root → v ≡ w → get_or names w None ≡ Some k
         by_back u k w e there k_is is =
             let returned : Contains (get_or lists v []) u = subst (λ x. Contains (get_or lists x []) u) (sym is) (back.back u w there) in
-            let name : m ≡ k = ⊎_elim (λ (same : get_or names u None ≡ Some m). (let both : Some m ≡ Some k = sym same ∙ e in cc)) (λ (other : (m ≡ root) × Contains (rest ++ v ∷ []) u). other.0 ∙ sym k_is) (s.closed v m u named returned) in
+            let name : m ≡ k = ⊎_elim (λ (same : get_or names u None ≡ Some m). (let both : Some m ≡ Some k = sym same ∙ e in cc))
+            (λ (other : (m ≡ root) × Contains (rest ++ v ∷ []) u). other.0 ∙ sym k_is) (s.closed v m u named returned) in
             ap (λ x. get_or names x None) (sym is) ∙ named ∙ ap Some name
 
     named_begun : HasName names root ⊎ Contains (rest ++ v ∷ []) root → HasName names root ⊎ Contains rest root
@@ -147,7 +156,8 @@ module _ (lists : List (List ℕ)) (within : AreWithin lists) (back : AreMutual 
     }
 
 -- one turn of the loop
-pub spreading_turns : (lists : List (List ℕ)) (root v : ℕ) (names names' : List (Option ℕ)) (old rest waiting' : List ℕ) → AreWithin lists → AreMutual lists → IsSpreading lists root names old → old ≡ rest ++ v ∷ []
+pub spreading_turns : (lists : List (List ℕ)) (root v : ℕ) (names names' : List (Option ℕ)) (old rest waiting' : List ℕ) → AreWithin lists → AreMutual lists
+    → IsSpreading lists root names old → old ≡ rest ++ v ∷ []
     → IsNamedFrom (get_or lists v []) root v names names' rest waiting' → IsSpreading lists root names' waiting'
 unfolding now after
 spreading_turns lists root v names names' old rest waiting' within back spreading popped n = by (option_cases (get_or names v None))
@@ -196,7 +206,8 @@ all_named lists bound names slice s past e k d lt =
     subst IsSome (sym (get_or_default slice k d None lt ∙ ap (λ xs. get_or xs k None) e ∙ has.1)) refl
 
 -- it is the name of its class
-pub names_of_classes : (lists : List (List ℕ)) (bound : ℕ) (names slice : List (Option ℕ)) (all : List ℕ) → AreMutual lists → AreSpread lists bound names → length lists ≤ bound → slice ≡ names → all ≡ map (λ name. unwrap_or name 0) slice → AreClassNames (Leads lists) (length lists) all
+pub names_of_classes : (lists : List (List ℕ)) (bound : ℕ) (names slice : List (Option ℕ)) (all : List ℕ) → AreMutual lists → AreSpread lists bound names
+    → length lists ≤ bound → slice ≡ names → all ≡ map (λ name. unwrap_or name 0) slice → AreClassNames (Leads lists) (length lists) all
 names_of_classes lists bound names slice all back s past is made = record {
   size_is = ap length e ∙ length-map names (λ name. unwrap_or name 0) ∙ s.size_is;
   each = λ v below. one v below (s.below v (omega arith));
@@ -212,7 +223,8 @@ names_of_classes lists bound names slice all back s past is made = record {
         let sound = s.sound v has.0 has.1 in
         subst (IsClassName nat_cmp (Leads lists) v) (sym name) (record {
           member = leads_back lists back has.0 v sound.0;
-          least = λ u there. not_greater has.0 u (s.sound u has.0 (stays_along lists (λ x. get_or names x None ≡ Some has.0) (λ x w named here. s.closed x has.0 w named here) v u there has.1)).1;
+          least = λ u there. not_greater has.0 u (s.sound u has.0 (stays_along lists (λ x. get_or names x None ≡ Some has.0)
+              (λ x w named here. s.closed x has.0 w named here) v u there has.1)).1;
         })
 
 falls : (count count' most added rest : ℕ) → count' + 1 ≡ count → added ≤ most → count' * (most + 1) + (rest + added) < count * (most + 1) + (rest + 1)
@@ -220,7 +232,8 @@ falls count count' most added rest e le = subst (λ n. count' * (most + 1) + (re
 
 -- the measure falls: a vertex less waits, or one less has no name and what came to wait is at most all lists together
 pub spreading_falls : (lists : List (List ℕ)) (root v : ℕ) (names names' : List (Option ℕ)) (old rest waiting' : List ℕ) → IsSpreading lists root names old → old ≡ rest ++ v ∷ []
-    → IsNamedFrom (get_or lists v []) root v names names' rest waiting' → count_by is_none names' * (sum_by length lists + 1) + length waiting' < count_by is_none names * (sum_by length lists + 1) + length old
+    → IsNamedFrom (get_or lists v []) root v names names' rest waiting'
+    → count_by is_none names' * (sum_by length lists + 1) + length waiting' < count_by is_none names * (sum_by length lists + 1) + length old
 spreading_falls lists root v names names' old rest waiting' s popped n = by (option_cases (get_or names v None))
   where
     size : length old ≡ length rest + 1
@@ -229,7 +242,8 @@ spreading_falls lists root v names names' old rest waiting' s popped n = by (opt
     below : v < length lists
     below = waiting_below lists root v names old rest s popped
 
-    by : (get_or names v None ≡ None) ⊎ ((m : ℕ) × (get_or names v None ≡ Some m)) → count_by is_none names' * (sum_by length lists + 1) + length waiting' < count_by is_none names * (sum_by length lists + 1) + length old
+    by : (get_or names v None ≡ None) ⊎ ((m : ℕ) × (get_or names v None ≡ Some m))
+        → count_by is_none names' * (sum_by length lists + 1) + length waiting' < count_by is_none names * (sum_by length lists + 1) + length old
     by (inl fresh) =
         let is = n.fresh fresh in
         let counted = sum_by-set (λ name. cond (is_none name) 1 0) names v (Some root) None (omega (arith, below, s.size_is)) in

@@ -1,8 +1,8 @@
 -- Where lists lead: one vertex more in front or behind, one trail after another, back again, and what stays along a trail.
-use Rattle.std.proofs.Common.{◌≡◌, ℕ, ◌<◌, ◌≤◌, ◌⊎◌, inl, inr, ⊎_elim, List, [], ◌∷◌, Contains, length, get_or, refl, sym, subst, arith}
+use Rattle.std.proofs.Common.{◌≡◌, ℕ, ◌<◌, ⊎_elim, List, [], ◌∷◌, Contains, length, get_or, refl, sym, subst, arith}
 use Rattle.std.proofs.lemmas.Bool.{cases_lt}
 use Rattle.std.proofs.lemmas.List.{get_or_past}
-use Rattle.pgr_parts.specs.Trails.{IsTrail, Leads, AreWithin, AreMutual}
+use Rattle.pgr_parts.specs.Trails.{IsTrail, Leads, AreMutual}
 
 module _ (lists : List (List ℕ)) where
   -- the empty trail
@@ -42,4 +42,5 @@ module _ (lists : List (List ℕ)) where
 
   -- only a vertex below the size has something on its list
   pub has_list : (v w : ℕ) → Contains (get_or lists v []) w → v < length lists
-  has_list v w here = ⊎_elim (λ lt. lt) (λ past. let e : get_or lists v [] ≡ [] = get_or_past lists v [] past in let none : Contains [] w = subst (λ xs. Contains xs w) e here in absurd (omega (arith, none.1))) (cases_lt v (length lists))
+  has_list v w here = ⊎_elim (λ lt. lt) (λ past. let e : get_or lists v [] ≡ [] = get_or_past lists v [] past in
+      let none : Contains [] w = subst (λ xs. Contains xs w) e here in absurd (omega (arith, none.1))) (cases_lt v (length lists))

@@ -1,5 +1,5 @@
 -- One turn of the search: a lead is taken and followed, or the last group is closed.
-use Rattle.std.proofs.Common.{◌≡◌, ℕ, ◌+◌, ◌-◌, ◌*◌, ◌<◌, ◌≤◌, ◌++◌, ◌⊎◌, inl, inr, ⊎_elim, List, [], ◌∷◌, Contains, length, get_or, take, refl, sym, ap, ◌∙◌, subst, arith, count_by, min, All, IsSome, map, replicate, ◌^◌, Result}
+use Rattle.std.proofs.Common.{◌≡◌, ℕ, ◌+◌, ◌-◌, ◌*◌, ◌<◌, ◌≤◌, ◌++◌, ◌⊎◌, inl, inr, ⊎_elim, List, [], ◌∷◌, Contains, length, get_or, refl, sym, ap, ◌∙◌, subst, arith, count_by, All, IsSome, map, replicate, ◌^◌, Result}
 use Rattle.std.specs.List.{sum_by, AllPairs}
 use Rattle.std.specs.List.Sorted.{IsNonDecreasingBy}
 use Rattle.std.proofs.lemmas.Bool.{cases_lt}
@@ -16,10 +16,10 @@ use Rattle.pgr_parts.specs.declared.lead.Lead.{Lead}
 use Rattle.pgr_parts.specs.Standings.{is_unseen, leads_from_place, name_of, name_at, AreAllNamed}
 use Rattle.pgr_parts.specs.Classes.{IsClassName, AreClassNames}
 use Rattle.pgr_parts.specs.Trails.{Leads, LeadBothWays, AreWithin}
-use Rattle.pgr_parts.specs.Grouping.{State, start, standing_of, IsNoEarlier, IsSound, HasFollowed, AllFollowed, AllFollowedBut, IsSearching, StaysFound, IsFound, IsEntered, IsMerged, IsFollowed, IsTaken, HasNoLead, IsClosed, work}
+use Rattle.pgr_parts.specs.Grouping.{State, start, standing_of, IsSound, HasFollowed, AllFollowedBut, IsSearching, StaysFound, IsFound, IsFollowed, IsTaken, HasNoLead, IsClosed, work}
 use Rattle.pgr_parts.proofs.Orders.{not_greater}
 use Rattle.pgr_parts.proofs.TrailLemmas.{leads_to}
-use Rattle.pgr_parts.proofs.Places.{standing_cases, at_zero, at_most_last, path_below}
+use Rattle.pgr_parts.proofs.Places.{standing_cases, at_most_last, path_below}
 use Rattle.pgr_parts.proofs.Entering.{entered, is_entered, entered_sound, entered_followed, entered_found, entered_here, fewer}
 use Rattle.pgr_parts.proofs.Merging.{merged, is_merged, merged_sound, merged_followed}
 use Rattle.pgr_parts.proofs.Closing.{closed_sound, closed_followed, closed_found}
@@ -32,7 +32,8 @@ pub record GoesOn (lists : List (List ℕ)) (w : ℕ) (S S' : State) : Type 0 wh
   pub no_more : work lists S' ≤ work lists S
 
 -- the work of a vertex that is entered
-entered_work : (unseen unseen' most added leads firsts : ℕ) → unseen' + 1 ≡ unseen → added ≤ most → unseen' * (most + 1) + (leads + added) + (firsts + 1) ≤ unseen * (most + 1) + leads + firsts
+entered_work : (unseen unseen' most added leads firsts : ℕ) → unseen' + 1 ≡ unseen → added ≤ most
+    → unseen' * (most + 1) + (leads + added) + (firsts + 1) ≤ unseen * (most + 1) + leads + firsts
 entered_work unseen unseen' most added leads firsts e le = subst (λ n. unseen' * (most + 1) + (leads + added) + (firsts + 1) ≤ n * (most + 1) + leads + firsts) e (omega arith)
 
 module _ (lists : List (List ℕ)) (S : State) (s : IsSound lists S) (w : ℕ) (below : w < length lists)
@@ -45,15 +46,18 @@ module _ (lists : List (List ℕ)) (S : State) (s : IsSound lists S) (w : ℕ) (
     no_more =
         let list = get_or lists w [] in
         let new = leads_from_place (length S.path) list in
-        let leads : length (S.leads ++ new) ≡ length S.leads + length list = length-append S.leads new ∙ ap (λ n. length S.leads + n) (length-map list (λ x. record { from = length S.path; to = x })) in
+        let leads : length (S.leads ++ new) ≡ length S.leads + length list = length-append S.leads new
+        ∙ ap (λ n. length S.leads + n) (length-map list (λ x. record { from = length S.path; to = x })) in
         let firsts : length (S.firsts ++ length S.path ∷ []) ≡ length S.firsts + 1 = length-append S.firsts (length S.path ∷ []) in
         let most : length list ≤ sum_by length lists = get_or-le-sum_by length lists w [] below in
         let less = fewer lists S s w below unseen reach in
-        let bound = entered_work (count_by is_unseen S.standing) (count_by is_unseen (entered list w S).standing) (sum_by length lists) (length list) (length S.leads) (length S.firsts) less most in
+        let bound = entered_work (count_by is_unseen S.standing) (count_by is_unseen (entered list w S).standing) (sum_by length lists) (length list) (length S.leads)
+        (length S.firsts) less most in
         omega arith;
   }
 
-  by_waiting : (q count : ℕ) → standing_of S w ≡ Waiting q → ((i : ℕ) → i < count → i < length S.firsts → get_or S.firsts i 0 ≤ q) → ((i : ℕ) → count ≤ i → i < length S.firsts → q < get_or S.firsts i 0)
+  by_waiting : (q count : ℕ) → standing_of S w ≡ Waiting q → ((i : ℕ) → i < count → i < length S.firsts → get_or S.firsts i 0 ≤ q)
+      → ((i : ℕ) → count ≤ i → i < length S.firsts → q < get_or S.firsts i 0)
       → GoesOn lists w S (merged count S)
   by_waiting q count waiting low high = record {
     searching = record { sound = merged_sound lists S s w q count waiting low high reach; followed = merged_followed lists S s w q count waiting low high reach but };
@@ -85,7 +89,8 @@ taken rest S = record S { leads = rest }
 
 pub is_taken : (w : ℕ) (S S' : State) (e : IsTaken w S S') → S' ≡ taken S'.leads S
 is_taken w S S' e =
-    ap (λ x. record S' { standing = x }) e.standing ∙ (ap (λ x. record S' { standing = S.standing; path = x }) e.path ∙ ap (λ x. record S' { standing = S.standing; path = S.path; firsts = x }) e.firsts)
+    ap (λ x. record S' { standing = x }) e.standing ∙ (ap (λ x. record S' { standing = S.standing; path = x }) e.path
+    ∙ ap (λ x. record S' { standing = S.standing; path = S.path; firsts = x }) e.firsts)
 
 module _ (lists : List (List ℕ)) (within : AreWithin lists) (S : State) (g : IsSearching lists S) (w from : ℕ) (rest : List Lead)
     (split : S.leads ≡ rest ++ record { from = from; to = w } ∷ []) (last : get_or S.firsts (length S.firsts - 1) 0 ≤ from) where
@@ -93,7 +98,8 @@ module _ (lists : List (List ℕ)) (within : AreWithin lists) (S : State) (g : I
   old_lead lead there = subst (λ xs. Contains xs lead) (sym split) (Contains-append_left rest (record { from = from; to = w } ∷ []) lead there)
 
   the_lead : (from < length S.path) × Contains (get_or lists (get_or S.path from 0) []) w
-  the_lead = g.sound.lead_is (record { from = from; to = w }) (subst (λ xs. Contains xs (record { from = from; to = w })) (sym split) (Contains-push rest (record { from = from; to = w })))
+  the_lead = g.sound.lead_is (record { from = from; to = w }) (subst (λ xs. Contains xs (record { from = from; to = w })) (sym split)
+      (Contains-push rest (record { from = from; to = w })))
 
   size : length S.leads ≡ length rest + 1
   size = ap length split ∙ length-append rest (record { from = from; to = w } ∷ [])
@@ -110,7 +116,8 @@ module _ (lists : List (List ℕ)) (within : AreWithin lists) (S : State) (g : I
 
   taken_in_order : AllPairs (λ (a b : Lead). a.from ≤ b.from) rest
   taken_in_order i j d before lt =
-      let at : (k : ℕ) → k < length rest → get_or S.leads k d ≡ get_or rest k d = λ k below. ap (λ xs. get_or xs k d) split ∙ get_or_append_left rest (record { from = from; to = w } ∷ []) d k below in
+      let at : (k : ℕ) → k < length rest → get_or S.leads k d ≡ get_or rest k d = λ k below. ap (λ xs. get_or xs k d) split
+      ∙ get_or_append_left rest (record { from = from; to = w } ∷ []) d k below in
       let a = ap (λ (l : Lead). l.from) (at i (omega arith)) in
       let b = ap (λ (l : Lead). l.from) (at j lt) in
       omega (arith, g.sound.in_order i j d before (omega (arith, size)))
@@ -132,10 +139,12 @@ module _ (lists : List (List ℕ)) (within : AreWithin lists) (S : State) (g : I
     room = g.sound.room;
   }
 
-  taken_case : (p x : ℕ) → HasFollowed S p x ⊎ Contains S.leads (record { from = p; to = x }) → (HasFollowed (taken rest S) p x ⊎ Contains rest (record { from = p; to = x })) ⊎ ((x ≡ w) × ((f : ℕ) → Contains S.firsts f → f ≤ p))
+  taken_case : (p x : ℕ) → HasFollowed S p x ⊎ Contains S.leads (record { from = p; to = x }) → (HasFollowed (taken rest S) p x ⊎ Contains rest (record { from = p; to = x }))
+      ⊎ ((x ≡ w) × ((f : ℕ) → Contains S.firsts f → f ≤ p))
   taken_case p x (inl done) = inl (inl done)
   taken_case p x (inr lead) = ⊎_elim (λ old. inl (inr old))
-      (λ (is : ◌≡◌ {A = Lead} (record { from = from; to = w }) (record { from = p; to = x })). inr (ap (λ (l : Lead). l.to) (sym is), (λ f there. (let same : from ≡ p = ap (λ (l : Lead). l.from) is in let le = up_to f there in omega arith))))
+      (λ (is : ◌≡◌ {A = Lead} (record { from = from; to = w }) (record { from = p; to = x })). inr
+      (ap (λ (l : Lead). l.to) (sym is), (λ f there. (let same : from ≡ p = ap (λ (l : Lead). l.from) is in let le = up_to f there in omega arith))))
       (Contains-push_cases rest (record { from = from; to = w }) (record { from = p; to = x }) (subst (λ xs. Contains xs (record { from = p; to = x })) split lead))
 
   taken_but : AllFollowedBut lists w (taken rest S)
@@ -147,23 +156,28 @@ pub record HasTurned (lists : List (List ℕ)) (S S' : State) : Type 0 where
   pub found : StaysFound S S'
   pub less : work lists S' < work lists S
 
-pub follows_lead : (lists : List (List ℕ)) (S S1 S' : State) (w : ℕ) → AreWithin lists → IsSearching lists S → IsTaken w S S1 → IsFollowed (get_or lists w []) w S1 S' → HasTurned lists S S'
+pub follows_lead : (lists : List (List ℕ)) (S S1 S' : State) (w : ℕ) → AreWithin lists → IsSearching lists S → IsTaken w S S1 → IsFollowed (get_or lists w []) w S1 S'
+    → HasTurned lists S S'
 follows_lead lists S S1 S' w within g t h =
     let is = is_taken w S S1 t in
     let R : State → Type 0 = λ x. IsFollowed (get_or lists w []) w x S' in
     let on : GoesOn lists w (taken S1.leads S) S' = goes_on lists (taken S1.leads S) (taken_sound lists within S g w t.from S1.leads t.leads t.last) w
-    (taken_below lists within S g w t.from S1.leads t.leads t.last) (taken_reach lists within S g w t.from S1.leads t.leads t.last) (taken_but lists within S g w t.from S1.leads t.leads t.last) S' (subst R is h) in
+    (taken_below lists within S g w t.from S1.leads t.leads t.last) (taken_reach lists within S g w t.from S1.leads t.leads t.last)
+    (taken_but lists within S g w t.from S1.leads t.leads t.last) S' (subst R is h) in
     let count = size lists within S g w t.from S1.leads t.leads t.last in
     record { searching = on.searching; found = on.found; less = omega (arith, on.no_more) }
 
 -- the same where following may fail
-pub searching_after : {T E : Type 0} (r : Result T E) (lists : List (List ℕ)) (S S1 S' : State) (w : ℕ) → AreWithin lists → IsSearching lists S → IsTaken w S S1 → OnOk r (IsFollowed (get_or lists w []) w S1 S') → OnOk r (IsSearching lists S')
+pub searching_after : {T E : Type 0} (r : Result T E) (lists : List (List ℕ)) (S S1 S' : State) (w : ℕ) → AreWithin lists → IsSearching lists S → IsTaken w S S1
+    → OnOk r (IsFollowed (get_or lists w []) w S1 S') → OnOk r (IsSearching lists S')
 searching_after r lists S S1 S' w within g t = on_ok_weaker r (λ (h : IsFollowed (get_or lists w []) w S1 S'). (follows_lead lists S S1 S' w within g t h).searching)
 
-pub found_after : {T E : Type 0} (r : Result T E) (lists : List (List ℕ)) (S S1 S' : State) (w : ℕ) → AreWithin lists → IsSearching lists S → IsTaken w S S1 → OnOk r (IsFollowed (get_or lists w []) w S1 S') → OnOk r (StaysFound S S')
+pub found_after : {T E : Type 0} (r : Result T E) (lists : List (List ℕ)) (S S1 S' : State) (w : ℕ) → AreWithin lists → IsSearching lists S → IsTaken w S S1
+    → OnOk r (IsFollowed (get_or lists w []) w S1 S') → OnOk r (StaysFound S S')
 found_after r lists S S1 S' w within g t = on_ok_weaker r (λ (h : IsFollowed (get_or lists w []) w S1 S'). (follows_lead lists S S1 S' w within g t h).found)
 
-pub less_after : {T E : Type 0} (r : Result T E) (lists : List (List ℕ)) (S S1 S' : State) (w : ℕ) → AreWithin lists → IsSearching lists S → IsTaken w S S1 → OnOk r (IsFollowed (get_or lists w []) w S1 S') → OnOk r (work lists S' < work lists S)
+pub less_after : {T E : Type 0} (r : Result T E) (lists : List (List ℕ)) (S S1 S' : State) (w : ℕ) → AreWithin lists → IsSearching lists S → IsTaken w S S1
+    → OnOk r (IsFollowed (get_or lists w []) w S1 S') → OnOk r (work lists S' < work lists S)
 less_after r lists S S1 S' w within g t = on_ok_weaker r (λ (h : IsFollowed (get_or lists w []) w S1 S'). (follows_lead lists S S1 S' w within g t h).less)
 
 -- a lead that is taken leads to a vertex
@@ -190,7 +204,8 @@ pub closes_after : (lists : List (List ℕ)) (S S1 S' : State) → IsSearching l
 closes_after lists S S1 S' g none same c = (let R : State → Type 0 = λ x. IsClosed x S' in closes_group lists S S' g none (subst R same c))
 
 -- the root, where nothing stands on the path
-pub follows_root : (lists : List (List ℕ)) (S S' : State) (w : ℕ) → w < length lists → IsSearching lists S → S.path ≡ [] → IsFollowed (get_or lists w []) w S S' → GoesOn lists w S S'
+pub follows_root : (lists : List (List ℕ)) (S S' : State) (w : ℕ) → w < length lists → IsSearching lists S → S.path ≡ [] → IsFollowed (get_or lists w []) w S S'
+    → GoesOn lists w S S'
 follows_root lists S S' w below g idle h =
     let size = ap length idle in
     goes_on lists S g.sound w below (λ p lt. absurd (omega arith)) (λ p x lt there. absurd (omega arith)) S' h
@@ -217,11 +232,13 @@ starts_searching lists S e = subst (IsSearching lists) (sym e) (record {
 })
   where
     unseen : (v : ℕ) → get_or (replicate (length lists) Unseen) v Unseen ≡ Unseen
-    unseen v = ⊎_elim (λ lt. get_or-replicate (length lists) v Unseen Unseen lt) (λ past. get_or_past (replicate (length lists) Unseen) v Unseen (let size = length-replicate (length lists) Unseen in omega arith)) (cases_lt v (length lists))
+    unseen v = ⊎_elim (λ lt. get_or-replicate (length lists) v Unseen Unseen lt)
+        (λ past. get_or_past (replicate (length lists) Unseen) v Unseen (let size = length-replicate (length lists) Unseen in omega arith)) (cases_lt v (length lists))
 
 -- a path that is not empty has a group
 pub idle_path : (lists : List (List ℕ)) (S : State) → IsSearching lists S → length S.firsts ≡ 0 → S.path ≡ []
-idle_path lists S g none = nil_from_length S.path (⊎_elim (λ (some : 0 < length S.path). absurd (let lt = (g.sound.from_start some).1 in omega arith)) (λ (le : length S.path ≤ 0). omega arith) (cases_lt 0 (length S.path)))
+idle_path lists S g none = nil_from_length S.path (⊎_elim (λ (some : 0 < length S.path). absurd (let lt = (g.sound.from_start some).1 in omega arith))
+    (λ (le : length S.path ≤ 0). omega arith) (cases_lt 0 (length S.path)))
 
 -- what the code needs of a search: the groups begin in order, within the path, which has vertices only
 pub firsts_rise : (lists : List (List ℕ)) (S : State) → IsSearching lists S → IsNonDecreasingBy (λ first. first) S.firsts
@@ -248,14 +265,16 @@ has_name lists S g idle v found = by (standing_cases (standing_of S v))
     by (inr (inl e)) = absurd (let lt = (g.sound.on_path v e.0 e.1).0 in let size = ap length idle in omega arith)
     by (inr (inr e)) = e
 
-pub AreAllNamed-from_found : (lists : List (List ℕ)) (S : State) (bound : ℕ) (slice : List Standing) → IsSearching lists S → S.path ≡ [] → ((v : ℕ) → v < bound → IsFound S v) → length lists ≤ bound → slice ≡ S.standing → AreAllNamed slice
+pub AreAllNamed-from_found : (lists : List (List ℕ)) (S : State) (bound : ℕ) (slice : List Standing) → IsSearching lists S → S.path ≡ [] → ((v : ℕ) → v < bound → IsFound S v)
+    → length lists ≤ bound → slice ≡ S.standing → AreAllNamed slice
 AreAllNamed-from_found lists S bound slice g idle found past is k d lt =
     let size = ap length is in
     let name = has_name lists S g idle k (found k (omega (arith, g.sound.size_is))) in
     subst (λ t. IsSome (name_of t)) (sym (get_or_default slice k d Unseen lt ∙ (ap (λ xs. get_or xs k Unseen) is ∙ name.1))) refl
 
 -- it is the name of its class
-pub class_names : (lists : List (List ℕ)) (S : State) (bound : ℕ) (slice : List Standing) (names : List ℕ) → IsSearching lists S → S.path ≡ [] → ((v : ℕ) → v < bound → IsFound S v) → length lists ≤ bound → slice ≡ S.standing → names ≡ map name_at slice
+pub class_names : (lists : List (List ℕ)) (S : State) (bound : ℕ) (slice : List Standing) (names : List ℕ) → IsSearching lists S → S.path ≡ []
+    → ((v : ℕ) → v < bound → IsFound S v) → length lists ≤ bound → slice ≡ S.standing → names ≡ map name_at slice
     → AreClassNames (LeadBothWays lists) (length lists) names
 class_names lists S bound slice names g idle found past is made = record {
   size_is = ap length e ∙ (length-map S.standing name_at ∙ g.sound.size_is);

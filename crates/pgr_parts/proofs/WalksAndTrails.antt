@@ -1,6 +1,5 @@
 -- Walks over the links of a graph are trails over its lists, and the other way round.
-use Rattle.std.proofs.Common.{◌≡◌, ℕ, zero, suc, ◌+◌, ◌<◌, ◌≤◌, ◌++◌, ◌⊎◌, inl, inr, ⊎_elim, ◌↔◌, List, [], ◌∷◌, Contains, length, get_or, map, refl, sym, ap, ◌∙◌, subst, arith, Ordering}
-use Rattle.std.specs.Ordering.{nat_cmp}
+use Rattle.std.proofs.Common.{◌≡◌, ℕ, zero, suc, ◌<◌, ◌++◌, ◌⊎◌, inl, inr, List, [], ◌∷◌, Contains, length, get_or, map, refl, sym, ap, ◌∙◌, subst, arith}
 use Rattle.std.proofs.lemmas.List.{get_or-map, length-map}
 use Rattle.std.proofs.lemmas.List.Elements.{Contains-append_cases, Contains-append_left, Contains-append_right}
 use Rattle.pgr_walks.specs.declared.link.LinkOf.{LinkOf}
@@ -8,8 +7,9 @@ use Rattle.pgr_walks.specs.Walk.{IsWalk}
 use Rattle.pgr_walks.specs.Graph.{IsLawful, IsLinkOf}
 use Rattle.pgr_walks.specs.Reaches.{Reaches, turned, BothWays}
 use Rattle.pgr_walks.specs.Ends.{AreListsOf, heads_of, tails_of}
-use Rattle.pgr_parts.specs.Classes.{IsClassName, AreClassNames, Connected, StronglyConnected}
+use Rattle.pgr_parts.specs.Classes.{AreClassNames, Connected, StronglyConnected}
 use Rattle.pgr_parts.specs.Trails.{IsTrail, Leads, LeadBothWays, AreWithin, AreMutual}
+use Rattle.pgr_parts.proofs.SameName.{turned_both}
 use Rattle.pgr_parts.proofs.TrailLemmas.{leads_to_itself, leads_from, has_list}
 
 -- what a list has, its image has
@@ -59,7 +59,8 @@ module _ (Has : LinkOf ℕ → Type 0) (lists : List (List ℕ)) (steps : AreSte
   walk_from_leads u v h = walk_of_trail u h.trail v h.is_trail
 
 -- the same classes have the same names
-names_by : (A B : ℕ → ℕ → Type 0) → ((u v : ℕ) → A u v → B u v) → ((u v : ℕ) → B u v → A u v) → (size : ℕ) (names : List ℕ) → AreClassNames A size names → AreClassNames B size names
+names_by : (A B : ℕ → ℕ → Type 0) → ((u v : ℕ) → A u v → B u v) → ((u v : ℕ) → B u v → A u v) → (size : ℕ) (names : List ℕ) → AreClassNames A size names
+    → AreClassNames B size names
 names_by A B to from size names h = record {
   size_is = h.size_is;
   each = λ v below. record { member = to v _ (h.each v below).member; least = λ u there. (h.each v below).least u (from v u there) };
@@ -107,7 +108,8 @@ module _ (size : ℕ) (outs ins : ℕ → List (LinkOf ℕ)) (lawful : IsLawful 
 
     -- names over the lists of heads are names of strong classes
     pub strong_names : (names : List ℕ) → AreClassNames (LeadBothWays lists) (length lists) names → AreClassNames (StronglyConnected (IsLinkOf size ins)) size names
-    strong_names names h = subst (λ n. AreClassNames (StronglyConnected (IsLinkOf size ins)) n names) heads.size_is (names_by (LeadBothWays lists) (StronglyConnected (IsLinkOf size ins))
+    strong_names names h = subst (λ n. AreClassNames (StronglyConnected (IsLinkOf size ins)) n names) heads.size_is
+        (names_by (LeadBothWays lists) (StronglyConnected (IsLinkOf size ins))
         (λ u v both. (walk_from_leads (IsLinkOf size ins) lists head_steps u v both.0, walk_from_leads (IsLinkOf size ins) lists head_steps v u both.1))
         (λ u v both. (leads_from_walk (IsLinkOf size ins) lists head_steps u v both.0, leads_from_walk (IsLinkOf size ins) lists head_steps v u both.1)) (length lists) names h)
 
@@ -139,15 +141,10 @@ module _ (size : ℕ) (outs ins : ℕ → List (LinkOf ℕ)) (lawful : IsLawful 
     near_steps : AreStepsOf (BothWays (IsLinkOf size ins)) lists
     near_steps = record { listed = near_listed; step = near_step }
 
-    -- the links taken both ways, the other way
-    turned_both : (link : LinkOf ℕ) → BothWays (IsLinkOf size ins) link → BothWays (IsLinkOf size ins) (turned link)
-    turned_both link (inl has) = inr has
-    turned_both link (inr has) = inl has
-
     pub near_mutual : AreMutual lists
     near_mutual = record {
       back = λ v w there. (let s = near_step v w there in
-          let there' = near_listed (turned s.link) (turned_both s.link s.has) in
+          let there' = near_listed (turned s.link) (turned_both (IsLinkOf size ins) s.link s.has) in
           subst (λ x. Contains (get_or lists w []) x) s.from (subst (λ x. Contains (get_or lists x []) s.link.from) s.to there'));
     }
 

@@ -1,5 +1,5 @@
 -- A search for strong classes by a path of groups: its state, and its steps.
-use Rattle.std.specs.Prelude.{◌≡◌, ℕ, ◌+◌, ◌-◌, ◌*◌, ◌<◌, ◌≤◌, ◌⊎◌, ◌++◌, List, [], ◌∷◌, Option, Some, None, Bool, true, false, Contains, length, map, take, drop, replicate, count_by, slice_index, slice_index_or, slice_set}
+use Rattle.std.specs.Prelude.{◌≡◌, ℕ, ◌+◌, ◌-◌, ◌*◌, ◌<◌, ◌≤◌, ◌⊎◌, ◌++◌, List, [], ◌∷◌, Contains, length, take, drop, replicate, count_by, slice_index, slice_index_or, slice_set}
 use Rattle.std.specs.List.{sum_by, AllPairs}
 use Rattle.pgr_parts.specs.declared.standing.Standing.{Standing}
 use Rattle.pgr_parts.specs.declared.standing.Standing.TheVariants.{Unseen, Waiting, Named}
@@ -48,11 +48,13 @@ HasFollowed S p w = ((m : ℕ) × (standing_of S w ≡ Named m)) ⊎ ((q : ℕ) 
 
 -- all that places of the path lead to was followed, or is a lead
 abbrev pub AllFollowed : List (List ℕ) → State → Type 0
-AllFollowed lists S = (p w : ℕ) → p < length S.path → Contains (slice_index_or lists (slice_index S.path p) []) w → HasFollowed S p w ⊎ Contains S.leads (record { from = p; to = w })
+AllFollowed lists S = (p w : ℕ) → p < length S.path → Contains (slice_index_or lists (slice_index S.path p) []) w → HasFollowed S p w
+    ⊎ Contains S.leads (record { from = p; to = w })
 
 -- the same, but for one vertex that the last group leads to
 abbrev pub AllFollowedBut : List (List ℕ) → ℕ → State → Type 0
-AllFollowedBut lists to S = (p w : ℕ) → p < length S.path → Contains (slice_index_or lists (slice_index S.path p) []) w → (HasFollowed S p w ⊎ Contains S.leads (record { from = p; to = w })) ⊎ ((w ≡ to) × ((f : ℕ) → Contains S.firsts f → f ≤ p))
+AllFollowedBut lists to S = (p w : ℕ) → p < length S.path → Contains (slice_index_or lists (slice_index S.path p) []) w
+    → (HasFollowed S p w ⊎ Contains S.leads (record { from = p; to = w })) ⊎ ((w ≡ to) × ((f : ℕ) → Contains S.firsts f → f ≤ p))
 
 -- a search under way
 pub record IsSearching (lists : List (List ℕ)) (S : State) : Type 0 where

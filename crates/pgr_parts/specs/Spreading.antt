@@ -1,5 +1,5 @@
 -- How a name spreads from a vertex to its neighbours.
-use Rattle.std.specs.Prelude.{◌≡◌, ℕ, ◌<◌, ◌≤◌, ◌⊎◌, ◌++◌, List, [], Option, Some, None, Contains, length, slice_index_or, slice_set}
+use Rattle.std.specs.Prelude.{◌≡◌, ℕ, ◌<◌, ◌≤◌, ◌++◌, List, [], Option, Some, None, Contains, length, slice_index_or, slice_set}
 use Rattle.pgr_parts.specs.Trails.{Leads}
 
 -- a vertex has a name

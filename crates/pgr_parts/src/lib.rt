@@ -15,5 +15,8 @@ mod standing;
 mod tests;
 
 pub use grouping::strong;
-pub use laws::{connected_vertices_have_one_name, strongly_connected_vertices_have_one_name};
+pub use laws::{
+    connected_vertices_have_one_name, links_that_lead_back_connect_by_walks,
+    strongly_connected_vertices_have_one_name,
+};
 pub use spreading::connected;

@@ -8,4 +8,5 @@ all_names-requires c = AreAllNamed-from_found _ _ _ _ c.loop-root.invariant.sear
 
 pub returns : goal.returns
 returns c =
-    IfOk-weaker c.all_names.result _ _ (λ names e. class_names _ _ _ _ names.items c.loop-root.invariant.searching c.loop-root.invariant.idle c.loop-root.invariant.found (omega arith) (search rules) e) c.all_names.ensures
+    IfOk-weaker c.all_names.result _ _ (λ names e. class_names _ _ _ _ names.items c.loop-root.invariant.searching c.loop-root.invariant.idle c.loop-root.invariant.found
+    (omega arith) (search rules) e) c.all_names.ensures

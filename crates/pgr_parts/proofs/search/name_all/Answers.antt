@@ -1,5 +1,4 @@
-use Rattle.std.proofs.Common.{rules, refl, arith}
-use Rattle.std.proofs.lemmas.List.Elements.{All-get_or}
+use Rattle.std.proofs.Common.{refl, arith}
 use Rattle.pgr_parts.proofs.Naming.{AreNamedUpTo-more, AreNamed-from_all}
 use Rattle.pgr_parts.proofs.search.name_all.Goals as goal
 

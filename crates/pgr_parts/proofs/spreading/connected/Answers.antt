@@ -1,4 +1,3 @@
-use Rattle.std.proofs.Common.{rules, arith}
 use Rattle.std.proofs.lemmas.Result.{IfOk-weaker}
 use Rattle.pgr_parts.proofs.WalksAndTrails.{near_within, near_mutual, connected_names}
 use Rattle.pgr_parts.proofs.spreading.connected.Goals as goal

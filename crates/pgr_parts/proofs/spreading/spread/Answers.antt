@@ -1,4 +1,4 @@
-use Rattle.std.proofs.Common.{rules, arith}
+use Rattle.std.proofs.Common.{rules}
 use Rattle.pgr_parts.proofs.SpreadLemmas.{spreading_turns, spreading_ends, spreading_falls, waiting_below}
 use Rattle.pgr_parts.proofs.spreading.spread.Goals as goal
 

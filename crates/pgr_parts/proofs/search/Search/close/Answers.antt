@@ -1,4 +1,4 @@
-use Rattle.std.proofs.Common.{◌≡◌, ◌≤◌, ◌∙◌, ℕ, List, Contains, drop, refl, sym, ap, subst}
+use Rattle.std.proofs.Common.{◌≡◌, ◌≤◌, ◌∙◌, ℕ, List, Contains, drop, refl, ap, subst}
 use Rattle.std.proofs.lemmas.List.{with_items_is}
 use Rattle.pgr_parts.proofs.Naming.{AreNamed-same}
 use Rattle.pgr_parts.proofs.search.Search.close.Goals as goal

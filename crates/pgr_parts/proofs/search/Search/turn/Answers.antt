@@ -1,4 +1,4 @@
-use Rattle.std.proofs.Common.{rules, sym, subst}
+use Rattle.std.proofs.Common.{sym, subst}
 use Rattle.pgr_parts.specs.Grouping.{state_of, IsSearching}
 use Rattle.pgr_parts.proofs.Turning.{lead_below, searching_after, found_after, less_after, closes_after, firsts_rise, firsts_inside, path_inside}
 use Rattle.pgr_parts.proofs.search.Search.turn.Goals as goal
@@ -10,10 +10,12 @@ pub follow-requires-clause-rising : goal.follow-requires-clause-rising
 follow-requires-clause-rising c = rw c.in-Some.ensures.taken.firsts (firsts_rise _ _ c.requires.searching)
 
 pub close-requires-clause-firsts : goal.close-requires-clause-firsts
-close-requires-clause-firsts c = firsts_inside c.args.lists.now (state_of c.take_lead.new.self) (subst (IsSearching c.args.lists.now) (sym c.in-None.ensures.stays) c.requires.searching)
+close-requires-clause-firsts c = firsts_inside c.args.lists.now (state_of c.take_lead.new.self)
+    (subst (IsSearching c.args.lists.now) (sym c.in-None.ensures.stays) c.requires.searching)
 
 pub close-requires-clause-path : goal.close-requires-clause-path
-close-requires-clause-path c = path_inside c.args.lists.now (state_of c.take_lead.new.self) (subst (IsSearching c.args.lists.now) (sym c.in-None.ensures.stays) c.requires.searching)
+close-requires-clause-path c = path_inside c.args.lists.now (state_of c.take_lead.new.self)
+    (subst (IsSearching c.args.lists.now) (sym c.in-None.ensures.stays) c.requires.searching)
 
 pub returns-in-Some-clause-searching : goal.returns-in-Some-clause-searching
 returns-in-Some-clause-searching c = searching_after c.follow.result _ _ _ _ _ c.requires.within c.requires.searching c.in-Some.ensures.taken c.follow.ensures
