@@ -92,7 +92,7 @@ mod tests {
     use crate::network::network_of;
     use pgr_search::labels_to;
     use pgr_table::read_edges;
-    use pgr_walks::ListGraph;
+    use pgr_walks::RowGraph;
     use std::test::Fail;
 
     /// From 1 to 3 two edges cost 5, and one costs 9; no walk leads back.
@@ -101,11 +101,11 @@ mod tests {
     /// What is kept of the walks from a start to an end, by their numbers.
     fn between<K: Kept>(
         alloc: Global,
-        network: &Network<ListGraph>,
+        network: &Network<RowGraph>,
         start: u32,
         end: u32,
     ) -> Result<Option<K>, NoMemory>
-        requires network { IsNetworkOf ⟦<ListGraph as Graph>⟧ network.now }
+        requires network { IsNetworkOf ⟦<RowGraph as Graph>⟧ network.now }
         requires start { start < length network.now.names }
         requires end { end < length network.now.names }
         requires differ { start ≢ end }

@@ -7,7 +7,7 @@ use pgr_graph::{links_fit, links_of};
 use pgr_numbers::{Names, names_are_few, numbered_links_fit};
 use pgr_outside::NoMemory;
 use pgr_table::EdgeTable;
-use pgr_walks::{Graph, ListGraph, NamedLink};
+use pgr_walks::{Graph, RowGraph, NamedLink};
 use std::alloc::Global;
 
 /// Links between ids, the names of their ends, and a graph of the links between the numbers of these.
@@ -28,9 +28,9 @@ pub(crate) fn network_of(
     alloc: Global,
     edges: &EdgeTable,
     directed: bool,
-) -> Result<Network<ListGraph>, NoMemory>
+) -> Result<Network<RowGraph>, NoMemory>
     ensures links { IfOk result (λ network. (link : LinkOf ℤ) → Contains network.links.items link ↔ IsLinkOfTable edges.now directed link) }
-    ensures network { IfOk result (IsNetworkOf ⟦<ListGraph as Graph>⟧) }
+    ensures network { IfOk result (IsNetworkOf ⟦<RowGraph as Graph>⟧) }
 {
     // From this call it is known that a table has few enough rows for its names to be numbered.
     let _rows = edges.len();
@@ -40,7 +40,7 @@ pub(crate) fn network_of(
     let names = Names::of(alloc, links.as_slice())?;
     let numbered = names.numbered(links.as_slice())?;
     numbered_links_fit();
-    let graph = ListGraph::from_links(alloc, names.len(), numbered)?;
+    let graph = RowGraph::from_links(alloc, names.len(), numbered)?;
     Ok(Network {
         links,
         names,

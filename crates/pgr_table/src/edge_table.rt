@@ -109,7 +109,7 @@ impl EdgeTable {
         ensures { result ≡ [] }
     {
         EdgeTable {
-            rows: IndexMap::new(alloc),
+            edges: IndexMap::new(alloc),
         }
     }
 
