@@ -1,5 +1,6 @@
-ghost use Rattle.std.specs.Prelude.{◌≡◌};
+ghost use Rattle.std.specs.Prelude.{◌≡◌, ◌++◌, codes, decimal};
 ghost use Rattle.pgr_outside.specs.Parts.{parts_text};
+ghost use Rattle.pgr_table.specs.Columns.{name_of};
 ghost use Rattle.pgr_table.specs.FaultText.{fault_text};
 
 use crate::column::Column;
@@ -46,61 +47,46 @@ impl TableFault {
         ensures { parts_text result ≡ fault_text self }
     {
         let none = Part::Words("");
-        let record = Part::Words("record ");
         match self {
             TableFault::NoHeader => [Part::Words("no header"), none, none, none],
-            TableFault::UnevenRecord(number) => {
-                [
-                    record,
-                    Part::Number(number),
-                    Part::Words(" is uneven"),
-                    none,
-                ]
-            }
-            TableFault::MissingColumn(column) => [
-                Part::Words("column "),
-                Part::Words(column.name()),
-                Part::Words(" missing"),
-                none,
-            ],
-            TableFault::RepeatedColumn(column) => [
-                Part::Words("column "),
-                Part::Words(column.name()),
-                Part::Words(" repeated"),
-                none,
-            ],
+            TableFault::UnevenRecord(number) => record_parts(number, " is uneven"),
+            TableFault::MissingColumn(column) => column_parts(column, " missing"),
+            TableFault::RepeatedColumn(column) => column_parts(column, " repeated"),
             TableFault::BadField(number, column) => [
-                record,
+                Part::Words("record "),
                 Part::Number(number),
                 Part::Words(": bad "),
                 Part::Words(column.name()),
             ],
-            TableFault::DuplicateId(number) => {
-                [
-                    record,
-                    Part::Number(number),
-                    Part::Words(": id repeated"),
-                    none,
-                ]
-            }
-            TableFault::TooManyRows(number) => {
-                [
-                    record,
-                    Part::Number(number),
-                    Part::Words(": too many rows"),
-                    none,
-                ]
-            }
-            TableFault::CostSum(number) => {
-                [
-                    record,
-                    Part::Number(number),
-                    Part::Words(": sum too large"),
-                    none,
-                ]
-            }
+            TableFault::DuplicateId(number) => record_parts(number, ": id repeated"),
+            TableFault::TooManyRows(number) => record_parts(number, ": too many rows"),
+            TableFault::CostSum(number) => record_parts(number, ": sum too large"),
         }
     }
+}
+
+/// What is said of a record, in parts.
+fn record_parts(number: u64, after: &'static str) -> [Part<'static>; 4]
+    ensures { parts_text result ≡ codes "record " ++ decimal number ++ after.now }
+{
+    [
+        Part::Words("record "),
+        Part::Number(number),
+        Part::Words(after),
+        Part::Words(""),
+    ]
+}
+
+/// What is said of a column, in parts.
+fn column_parts(column: Column, after: &'static str) -> [Part<'static>; 4]
+    ensures { parts_text result ≡ codes "column " ++ name_of column ++ after.now }
+{
+    [
+        Part::Words("column "),
+        Part::Words(column.name()),
+        Part::Words(after),
+        Part::Words(""),
+    ]
 }
 
 /// Why there is no table.
