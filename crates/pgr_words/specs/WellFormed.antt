@@ -1,9 +1,10 @@
 -- Well-formed commands: the defaults, with a value in its form in the field of each given option, and each needed option given.
-use Rattle.std.specs.Prelude.{◌≡◌, ℕ, ◌<◌, ◌≤◌, true, List, length, ℤ, Some, None, IfSome}
+use Rattle.std.specs.Prelude.{◌≡◌, ℕ, ◌<◌, ◌≤◌, true, false, List, [], length, ℤ, Some, None, IfSome}
 use Rattle.std.specs.Ordering.{int_cmp}
 use Rattle.std.specs.List.{All}
 use Rattle.pgr_outside.specs.Lists.{IsStrictlyRising}
 use Rattle.pgr_words.specs.declared.option.OptionName.{OptionName}
+use Rattle.pgr_words.specs.declared.option.OptionName.TheVariants as option
 use Rattle.pgr_words.specs.declared.command.Command.{Command}
 use Rattle.pgr_words.specs.Options.{is_in_form}
 use Rattle.pgr_words.specs.Functions.{function_named, is_among}
@@ -35,10 +36,20 @@ pub record AreIds (list : List ℤ) : Type 0 where
   pub rises : IsStrictlyRising int_cmp list
   pub at_most : length list ≤ most_ids
 
--- what the fields of a well-formed command are, whatever its function
-pub record AreInForm (command : Command) : Type 0 where
+-- what the fields of a well-formed command are, where its function has these options
+pub record AreInForm (options : List OptionName) (command : Command) : Type 0 where
   pub edges : IsFileName command.edges
   pub combinations : IfSome command.combinations IsFileName
   pub starts : AreIds command.starts
   pub ends : AreIds command.ends
   pub vids : AreIds command.vids
+  -- what the function needs is there
+  pub starts_needed : is_among options option.Start ≡ true → command.combinations ≡ None → 0 < length command.starts
+  pub ends_needed : is_among options option.End ≡ true → command.combinations ≡ None → 0 < length command.ends
+  pub vids_needed : is_among options option.Vids ≡ true → 0 < length command.vids
+  -- what it hasn't stands at its default
+  pub combinations_unused : is_among options option.Combinations ≡ false → command.combinations ≡ None
+  pub starts_unused : is_among options option.Start ≡ false → command.starts ≡ []
+  pub ends_unused : is_among options option.End ≡ false → command.ends ≡ []
+  pub vids_unused : is_among options option.Vids ≡ false → command.vids ≡ []
+  pub directed_unused : is_among options option.Directed ≡ false → command.directed ≡ true

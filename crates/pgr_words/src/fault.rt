@@ -26,13 +26,13 @@ pub enum WordFault {
     #[error("unknown option in word {0}")]
     UnknownOption(u64),
     /// A word names an option that an earlier word named.
-    #[error("option {} repeated", .0.name())]
+    #[error("option {0} repeated")]
     RepeatedOption(OptionName),
     /// A word gives an option a value that isn't in its form.
-    #[error("bad value for {}", .0.name())]
+    #[error("bad value for {0}")]
     BadValue(OptionName),
     /// No word gives an option that is needed.
-    #[error("option {} missing", .0.name())]
+    #[error("option {0} missing")]
     MissingOption(OptionName),
 }
 

@@ -31,9 +31,10 @@ pub fn what_follows_a_fault_has_no_part_in_it()
         → command_of (name ∷ before ++ word ∷ after) ≡ Err fault }
 {}
 
-/// In a well-formed command each file has a name of 1 to 4,096 bytes, and each list of ids is strictly rising.
+/// In a well-formed command each file has a name of 1 to 4,096 bytes, and each list of ids is strictly rising; what its
+/// function needs is there, and what it hasn't stands at its default.
 ///
 /// A law; the call does nothing.
 pub fn fields_of_well_formed_commands_are_in_form()
-    ensures { (command : Command) → IsWellFormed command → AreInForm command }
+    ensures { (command : Command) (well : IsWellFormed command) → AreInForm well.options command }
 {}

@@ -1,9 +1,11 @@
 //! The words of a command line: a function's name and its options, read as a command or refused with the first fault.
 //!
-//! [`read_words`] reads a [`Command`]. Its [`Function`] has a table of the options that it takes and of those that it
-//! needs; each option is an [`OptionName`]. A later function is a row of that table, in the code and in the definition.
-//! Proved: the answer is the command of the words or their first fault, by a definition on the words' bytes
-//! (`verdict`), and every command is well formed (`well_formed`). Not proved: time.
+//! [`read_words`] reads a [`Command`]. Its [`Function`] has some options; an [`OptionName`] is a row with a name, when it is
+//! needed, the form of its value, and the field that the value fills. [`WordFault::parts`] is what is said of a fault.
+//! Proved: the answer is the command of the words or their first fault, or out of memory, by a definition on the bytes of
+//! the words (`verdict`), and every command is well formed (`well_formed`); what is said of a fault is exactly its text.
+//! Laws: the first fault is that of the first word that breaks a rule, and what follows that word has no part in it; in a
+//! well-formed command each file has a name and each list of ids rises. Not proved: time, and that memory suffices.
 #![tactic(auto)]
 
 mod command;

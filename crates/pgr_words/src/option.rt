@@ -1,9 +1,11 @@
 ghost use Rattle.std.specs.Prelude.{◌≡◌};
 ghost use Rattle.pgr_words.specs.Options.{name_of, rule_of};
 
+use std::fmt;
+
 /// An option of the command line.
 ///
-/// The values of its field in a [`Command`](crate::Command) stand there.
+/// It is shown by its name.
 #[derive(Clone, Copy, Debug, PartialEq, Eq)]
 pub enum OptionName {
     /// The file of the table of edges.
@@ -62,5 +64,11 @@ impl OptionName {
             OptionName::Directed => ("directed", Need::Never),
         };
         OptionRule { name, need }
+    }
+}
+
+impl fmt::Display for OptionName {
+    fn fmt<W: fmt::Write>(&self, f: &mut fmt::Formatter<W>) -> fmt::Result {
+        f.write_str(self.name())
     }
 }
