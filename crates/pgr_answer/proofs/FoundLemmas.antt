@@ -1,5 +1,5 @@
 -- What is found for pairs of numbers grows by a pair at a time, and once sorted it rises by start and then by end.
-use Rattle.std.proofs.Common.{◌≡◌, ◌≢◌, ℕ, zero, suc, ℤ, ◌+◌, ◌-◌, ◌<◌, ◌≤◌, ◌⊎◌, inl, inr, ⊎_elim, Bool, true, false, List, [], ◌∷◌, ◌++◌, length, get_or, take, drop, refl, sym, ap, subst, ◌∙◌, arith, append_assoc, append-nil, Ordering, Less, Equal, Greater}
+use Rattle.std.proofs.Common.{◌≡◌, ◌≢◌, ℕ, zero, suc, ℤ, ◌+◌, ◌-◌, ◌<◌, ◌≤◌, ◌⊎◌, inl, inr, ⊎_elim, Bool, true, false, List, [], ◌∷◌, ◌++◌, length, map, get_or, take, drop, refl, sym, ap, subst, ◌∙◌, arith, append_assoc, append-nil, Ordering, Less, Equal, Greater}
 use Rattle.std.specs.Prelude.{All, Any, Contains}
 use Rattle.std.specs.List.{AllPairs, IsDistinct}
 use Rattle.std.specs.List.Sorted.{IsSorted, IsPermutation}
@@ -7,8 +7,8 @@ use Rattle.std.specs.Ordering.{nat_cmp, eq_by_cmp, ordering_then, is_eq, is_lt, 
 use Rattle.std.specs.Cmp.{IsTotalOrder, Equal-is}
 use Rattle.std.proofs.lemmas.Bool.{cases_Bool}
 use Rattle.std.proofs.lemmas.Cmp.{nat_cmp_total, on_total, then_total, eq_by_cmp_equiv}
-use Rattle.std.proofs.lemmas.List.{take_more, take_all, length-append, get_or_append_left, get_or-append_right}
-use Rattle.std.proofs.lemmas.List.Elements.{All-nil, All-push, All-weaker, Contains-append_left, Contains-push, Contains-push_cases}
+use Rattle.std.proofs.lemmas.List.{take_more, take_all, length-append, length-map, get_or-map, get_or_append_left, get_or-append_right}
+use Rattle.std.proofs.lemmas.List.Elements.{All-nil, All-push, All-weaker, All-map, Contains-append_left, Contains-push, Contains-push_cases}
 use Rattle.std.proofs.lemmas.List.Quantifiers.{all_pairs_push}
 use Rattle.std.proofs.lemmas.List.Sorted.{All-permutation, Contains-permutation, sorted_far, ranks_by}
 use Rattle.std.proofs.lemmas.Map.Keys.{IsDistinct-from_apart, IsDistinct-IsPermutation, apart_from_distinct}
@@ -19,7 +19,7 @@ use Rattle.pgr_numbers.specs.Names.{id_at}
 use Rattle.pgr_answer.specs.declared.pair.Pair.{Pair}
 use Rattle.pgr_answer.specs.declared.found.Found.{Found}
 use Rattle.pgr_answer.specs.Gathering.{pair_cmp}
-use Rattle.pgr_answer.specs.Finding.{HaveEnd, pair_of, found_cmp, AreFound, RisesByPair, Extends}
+use Rattle.pgr_answer.specs.Finding.{IsPairAmong, HaveEnd, pair_of, found_cmp, AreFound, RisesByPair, Extends}
 use Rattle.pgr_answer.proofs.PairLemmas.{pair_tie, pair_total, same_pair}
 
 -- what rises, rises in its front
@@ -172,3 +172,11 @@ one_end_pair group one_end (suc i) d inside = same_pair _ (get_or group (suc i) 
 pub all_done : (pairs done rest : List Pair) → pairs ≡ done ++ rest → length rest ≡ 0 → done ≡ pairs
 all_done pairs done [] order none = sym (order ∙ append-nil done)
 all_done pairs done (pair ∷ rest) order none = absurd (omega arith)
+
+-- the starts of pairs among some vertices are vertices
+pub starts_among : (size : ℕ) (pairs : List Pair) → All (IsPairAmong size) pairs → All (λ w. w < size) (map (λ (pair : Pair). pair.start) pairs)
+starts_among size pairs all = All-map (λ w. w < size) (λ (pair : Pair). pair.start) pairs (All-weaker (IsPairAmong size) (λ pair. pair.start < size) (λ pair is. is.0) pairs all)
+
+-- the start of a pair of a list is among their starts
+pub start_among : (pairs : List Pair) (i : ℕ) (d : Pair) → i < length pairs → Contains (map (λ (pair : Pair). pair.start) pairs) (get_or pairs i d).start
+start_among pairs i d inside = (i, omega (arith, length-map pairs (λ (pair : Pair). pair.start)), get_or-map (λ (pair : Pair). pair.start) pairs i d _ inside)

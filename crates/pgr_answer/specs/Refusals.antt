@@ -29,7 +29,8 @@ IsRefused known before after file (TooLong role) = IsContentRefused known file (
 IsRefused known before after file (Table role fault) = IsContentRefused known file (Table role fault)
 IsRefused known before after file Memory = Unit {0}
 
--- a refusal holds: it is for one of the files, and the files before that one have contents, the known ones where they are known, that are accepted (where memory ran out, it always holds)
+-- a refusal holds: it is for one of the files, and the files before that one have contents, the known ones where they are known, that are accepted (where memory ran out, it
+-- always holds)
 pub record HoldsAmong (known : List ℕ → Option (List ℕ)) (before after : List ℕ → ℕ) (files : List File) (refused : Refused) : Type 0 where
   pub front : List File
   pub file : File

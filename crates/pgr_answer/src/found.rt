@@ -1,6 +1,6 @@
-ghost use Rattle.std.specs.Prelude.{◌≡◌, ◌≢◌, ◌<◌, ◌≤◌, [], ◌∷◌, length, take, All, Contains, IfOk, OnOk};
+ghost use Rattle.std.specs.Prelude.{◌≡◌, ◌≢◌, ◌<◌, ◌≤◌, [], ◌∷◌, length, map, take, All, Contains, IfOk, OnOk};
 ghost use Rattle.pgr_outside.specs.Lists.{IsStrictlyRising};
-ghost use Rattle.pgr_walks.specs.Label.{HoldsLabels};
+ghost use Rattle.pgr_search.specs.FinalLabels.{HoldsLabelsFrom};
 ghost use Rattle.pgr_walks.specs.LinksOf.{LinksOf};
 ghost use Rattle.pgr_answer.specs.Networks.{IsNetworkOf};
 ghost use Rattle.pgr_answer.specs.Gathering.{pair_cmp};
@@ -11,7 +11,7 @@ use crate::network::Network;
 use crate::pair::Pair;
 use pgr_numbers::graph_of_numbered_links_fits;
 use pgr_outside::NoMemory;
-use pgr_search::{Room, labels_to};
+use pgr_search::{Bound, Room, labels_until};
 use pgr_walks::Graph;
 use std::alloc::Global;
 
@@ -70,7 +70,7 @@ fn count_of_end(pairs: &[Pair]) -> usize
     pairs.len()
 }
 
-/// Finds what is kept of the walks of pairs that have one end, by one search.
+/// Finds what is kept of the walks of pairs that have one end, by one search that stops once their starts have labels.
 fn find_group<G: Graph, K: Kept>(
     alloc: Global,
     network: &Network<G>,
@@ -89,16 +89,29 @@ fn find_group<G: Graph, K: Kept>(
 {
     let end = group[0].end;
     graph_of_numbered_links_fits(&network.graph);
-    labels_to(&network.graph, &[end], room);
+    let starts = starts_of(alloc, group)?;
+    let wanted = Bound::Wanted(starts.as_slice());
+    labels_until(&network.graph, &[end], wanted, room);
     for pair in group {
         find_pair(alloc, network, room, pair.start, end, found)?;
     }
     Ok(())
 }
 
+/// The starts of pairs, in order.
+fn starts_of(alloc: Global, pairs: &[Pair]) -> Result<Vec<u32>, NoMemory>
+    ensures { IfOk result (λ starts. starts.items ≡ map (λ pair. pair.start) pairs.now) }
+{
+    let mut starts = Vec::new(alloc);
+    for pair in pairs {
+        starts.push(pair.start)?;
+    }
+    Ok(starts)
+}
+
 /// Finds what is kept of the walks of a pair, if one leads from its start to its end.
 ///
-/// The room holds the labels to the end alone.
+/// The room holds final labels to the end alone, with that of the start.
 fn find_pair<G: Graph, K: Kept>(
     alloc: Global,
     network: &Network<G>,
@@ -108,7 +121,7 @@ fn find_pair<G: Graph, K: Kept>(
     found: &mut Vec<Found<K>>,
 ) -> Result<(), NoMemory>
     requires network { IsNetworkOf G.Graph network.now }
-    requires room { HoldsLabels (G.count network.now.graph) (LinksOf G.Graph network.now.graph) (end ∷ []) room.now }
+    requires room { HoldsLabelsFrom (G.count network.now.graph) (LinksOf G.Graph network.now.graph) (end ∷ []) room.now start }
     requires start { start < length network.now.names }
     requires end { end < length network.now.names }
     requires differ { start ≢ end }

@@ -2,7 +2,7 @@ ghost use Rattle.std.specs.Prelude.{◌≡◌, ◌≢◌, ◌<◌, ℕ, ℤ, Lis
 ghost use Rattle.pgr_walks.specs.declared.link.LinkOf.{LinkOf};
 ghost use Rattle.pgr_walks.specs.Walk.{IsWalk};
 ghost use Rattle.pgr_walks.specs.LinksOf.{LinksOf};
-ghost use Rattle.pgr_walks.specs.Label.{HoldsLabels};
+ghost use Rattle.pgr_search.specs.FinalLabels.{HoldsLabelsFrom};
 ghost use Rattle.pgr_numbers.specs.Names.{id_at};
 ghost use Rattle.pgr_answer.specs.Networks.{IsNetworkOf};
 
@@ -24,7 +24,8 @@ pub(crate) trait Kept: Drop {
 
     /// What is kept of the walks from a start to an end, by their numbers, or none where no walk leads there.
     ///
-    /// The room holds the labels to the end alone, and the two differ. `NoMemory` may come at any call.
+    /// The room holds final labels to the end alone, with that of the start, and the two differ. `NoMemory` may come at any
+    /// call.
     fn of<G: Graph>(
         alloc: Global,
         network: &Network<G>,
@@ -33,7 +34,7 @@ pub(crate) trait Kept: Drop {
         end: u32,
     ) -> Result<Option<Self>, NoMemory>
         requires network { IsNetworkOf G.Graph network.now }
-        requires room { HoldsLabels (G.count network.now.graph) (LinksOf G.Graph network.now.graph) (end ∷ []) room.now }
+        requires room { HoldsLabelsFrom (G.count network.now.graph) (LinksOf G.Graph network.now.graph) (end ∷ []) room.now start }
         requires start { start < length network.now.names }
         requires end { end < length network.now.names }
         requires differ { start ≢ end }
@@ -90,7 +91,7 @@ impl Kept for LeastCost {
 mod tests {
     use super::*;
     use crate::network::network_of;
-    use pgr_search::labels_to;
+    use pgr_search::{Bound, labels_until};
     use pgr_table::read_edges;
     use pgr_walks::RowGraph;
     use std::test::Fail;
@@ -112,7 +113,7 @@ mod tests {
     {
         let mut room = Room::for_size(alloc, network.names.len())?;
         graph_of_numbered_links_fits(&network.graph);
-        labels_to(&network.graph, &[end], &mut room);
+        labels_until(&network.graph, &[end], Bound::Wanted(&[start]), &mut room);
         K::of(alloc, network, &room, start, end)
     }
 

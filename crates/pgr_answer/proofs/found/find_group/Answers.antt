@@ -1,10 +1,20 @@
 -- Each pair of the group has more found for it.
-use Rattle.std.proofs.Common.{◌≡◌, arith, subst}
+use Rattle.std.proofs.Common.{◌≡◌, ◌∙◌, length, arith, subst}
 use Rattle.std.specs.Prelude.{Contains}
 use Rattle.std.proofs.lemmas.List.{take_all}
 use Rattle.pgr_answer.specs.Finding.{Extends}
-use Rattle.pgr_answer.proofs.FoundLemmas.{extends_more, one_end_pair}
+use Rattle.pgr_search.specs.FinalLabels.{wanted_known}
+use Rattle.pgr_answer.proofs.FoundLemmas.{extends_more, one_end_pair, starts_among, start_among}
 use Rattle.pgr_answer.proofs.found.find_group.Goals as goal
+
+pub labels_until-requires-clause-bound : goal.labels_until-requires-clause-bound
+labels_until-requires-clause-bound g c =
+    rw (c.as_slice.ensures.value, c.in_ok-starts.ensures, c.requires.network.size_is) (starts_among (length c.args.network.now.names) c.args.group.now c.requires.among)
+
+pub find_pair-requires-clause-room : goal.find_pair-requires-clause-room
+find_pair-requires-clause-room g c =
+    let starts = c.as_slice.ensures.value ∙ c.in_ok-starts.ensures in
+    wanted_known _ _ _ _ _ c.labels_until.ensures.labels (rw starts at c.labels_until.ensures.bound) _ (start_among c.args.group.now c.loop-pair.pair-index _ (omega arith))
 
 pub loop-pair-preserved : goal.loop-pair-preserved
 loop-pair-preserved g c =

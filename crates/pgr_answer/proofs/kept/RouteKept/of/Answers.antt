@@ -1,16 +1,11 @@
-use Rattle.std.proofs.Common.{◌<◌, arith}
-use Rattle.pgr_search.specs.FinalLabels.{all_known}
 use Rattle.pgr_answer.proofs.KeptLemmas.{found_then, route_between}
 use Rattle.pgr_answer.proofs.kept.RouteKept.of.Goals as goal
 
 pub least_route-requires-clause-room : goal.least_route-requires-clause-room
-least_route-requires-clause-room g c =
-    let below : c.args.start < g.G.Graph.count c.args.network.now.graph = omega (arith, c.requires.start, c.requires.network.size_is) in
-    (_, all_known _ _ _ _ c.requires.room c.args.start below)
+least_route-requires-clause-room g c = (_, c.requires.room)
 
 pub returns-clause-shows : goal.returns-clause-shows
 returns-clause-shows g c = found_then c.least_route.result c.least_route.ensures.least (λ route from_labels.
-    let below : c.args.start < g.G.Graph.count c.args.network.now.graph = omega (arith, c.requires.start, c.requires.network.size_is) in
-    let by_numbers = from_labels _ (all_known _ _ _ _ c.requires.room c.args.start below) in
+    let by_numbers = from_labels _ c.requires.room in
     route_between _ _ _ _ c.requires.network c.args.start c.args.end route c.requires.differ by_numbers
     (c.least_walk_of_graph_is_least_by_ids.ensures.least _ _ _ _ _ route c.requires.network.numbered c.requires.network.exactly c.requires.start c.requires.end by_numbers))
