@@ -1,0 +1,3 @@
+mod ClosestLemmas
+mod LabelRowLemmas
+mod WithinRows

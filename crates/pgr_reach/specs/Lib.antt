@@ -1,0 +1,5 @@
+pub mod FromRoot
+pub mod Within
+pub mod Equicost
+pub mod Closest
+pub mod LabelRows
