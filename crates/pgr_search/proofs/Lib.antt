@@ -10,3 +10,4 @@ pub mod Starting
 pub mod SeekingLemmas
 pub mod TightLinks
 pub mod ThreeVerticesFit
+pub mod GuidedSearch

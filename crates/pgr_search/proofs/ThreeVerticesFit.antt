@@ -1,9 +1,10 @@
 -- The graph of three vertices fits: no walk from its first vertex costs more than 2, and the others cost nothing.
-use Rattle.std.proofs.Common.{ℕ, zero, suc, ◌+◌, ◌≤◌, List, [], ◌∷◌, arith}
+use Rattle.std.proofs.Common.{ℕ, zero, suc, ◌+◌, ◌≤◌, ◌<◌, ◌^◌, List, [], ◌∷◌, arith}
 use Rattle.pgr_walks.specs.declared.link.LinkOf.{LinkOf}
 use Rattle.pgr_walks.specs.Walk.{IsWalk, cost_of}
 use Rattle.pgr_walks.specs.Graph.{Fits, greatest, IsLinkOf}
-use Rattle.pgr_search.specs.ThreeVertices.{ins_of, by_ins}
+use Rattle.pgr_search.specs.ThreeVertices.{ins_of, by_ins, two_beyond_zero}
+use Rattle.pgr_search.specs.Estimates.{IsConsistent}
 
 -- what may still be paid from a vertex on
 left : ℕ → ℕ
@@ -33,3 +34,11 @@ fits = record {
   links = λ link has. by_ins (λ l. l.cost ≤ greatest) (omega arith) (omega arith) (omega arith) link.to link has.1;
   routes = λ s t walk r. omega (arith, walk_cost s t walk r.is_walk, left_small s);
 }
+
+-- the estimate rises along no link by more than that costs, and is small
+pub consistent : IsConsistent (IsLinkOf 3 ins_of) two_beyond_zero
+consistent link has = by_ins (λ l. two_beyond_zero l.to ≤ two_beyond_zero l.from + l.cost) (omega arith) (omega arith) (omega arith) link.to link has.1
+
+pub small : (v : ℕ) → v < 3 → two_beyond_zero v < 2 ^ 127
+small zero below = omega arith
+small (suc v) below = omega arith

@@ -7,3 +7,5 @@ pub mod Turn
 pub mod ThreeVertices
 pub mod Seeking
 pub mod Tight
+pub mod Estimates
+pub mod Guiding

@@ -101,3 +101,8 @@ three_vertices_lawful = record {
     λ has. by_ins (λ l. Contains (outs_of l.from) l) (0, omega arith, refl) (0, omega arith, refl) (1, omega arith, refl) link.to link has,
   );
 }
+
+-- an estimate of what a walk from 0 costs
+abbrev pub two_beyond_zero : ℕ → ℕ
+two_beyond_zero zero = 0
+two_beyond_zero (suc v) = 2

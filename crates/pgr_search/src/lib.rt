@@ -5,11 +5,15 @@
 //! Proved: a vertex has a label exactly where a walk leads from it to a target, and its label is that of
 //! such a walk and at most that of every other. Up to a bound each label is the least of its vertex too, no
 //! label that is left out is less than one that is held, the wanted vertices have theirs, and within a limit
-//! stand exactly the vertices of no greater cost. [`least_tight_link`] gives the first link of a least walk. Not
-//! proved: time.
+//! stand exactly the vertices of no greater cost. [`labels_guided`] searches by cost and a consistent [`Estimate`]
+//! until a start has its least label, by the same lemma. [`least_tight_link`] gives the first link of a least
+//! walk. Not proved: time.
 #![tactic(auto)]
 
 mod bound;
+mod estimate;
+mod guided;
+mod guiding;
 mod laws;
 mod relaxing;
 mod room;
@@ -21,6 +25,8 @@ mod tight;
 mod tournament;
 
 pub use bound::Bound;
+pub use estimate::Estimate;
+pub use guided::{GuidedRoom, labels_guided};
 pub use laws::least_walks_follow_tight_links;
 pub use room::Room;
 pub use search::{labels_to, labels_until};

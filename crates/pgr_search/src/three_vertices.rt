@@ -1,7 +1,9 @@
 ghost use Rattle.std.specs.Prelude.{◌≡◌, ◌∷◌, []};
 ghost use Rattle.pgr_walks.specs.Visit.{Admits, shown};
 
-use super::{Bound, Room, labels_to, labels_until, least_tight_link};
+use super::{
+    Bound, Estimate, GuidedRoom, Room, labels_guided, labels_to, labels_until, least_tight_link,
+};
 use pgr_walks::{Graph, Label, Link, LinkVisitor, Next};
 use std::test::Fail;
 
@@ -142,5 +144,34 @@ fn the_least_tight_link_goes_on_to_the_target(rt: HostRuntime) -> Result<(), Fai
     assert_eq!(rt; least_tight_link(&ThreeVertices, 0, &room), Some(TO_TWO));
     assert_eq!(rt; least_tight_link(&ThreeVertices, 1, &room), Some(ON_TO_TWO));
     assert_eq!(rt; least_tight_link(&ThreeVertices, 2, &room), None);
+    Ok(())
+}
+
+// An estimate of what a walk from 0 costs: 2 at each other vertex, as much as the links out of 0.
+struct TwoBeyondZero;
+
+impl Estimate for TwoBeyondZero {
+    ghost use Rattle.pgr_search.specs.ThreeVertices.{two_beyond_zero};
+
+    ghost count = { λ _. 3 };
+
+    ghost values = { λ _. two_beyond_zero };
+
+    fn value(&self, v: u32) -> u128 {
+        if v == 0 { 0 } else { 2 }
+    }
+}
+
+#[test]
+fn a_guided_search_finds_the_label_of_its_start(rt: HostRuntime) -> Result<(), Fail> {
+    let mut room = GuidedRoom::for_size(rt.alloc(), 3)?;
+    labels_guided(&ThreeVertices, &[2], 0, &TwoBeyondZero, &mut room);
+    assert_eq!(rt; room.labels().label(0), Some(Label { cost: 2, hops: 1 }));
+    assert_eq!(rt;
+        least_tight_link(&ThreeVertices, 0, room.labels()),
+        Some(TO_TWO)
+    );
+    labels_guided(&ThreeVertices, &[0], 1, &TwoBeyondZero, &mut room);
+    assert_eq!(rt; room.labels().label(1), None);
     Ok(())
 }

@@ -1,0 +1,34 @@
+use Rattle.std.proofs.Common.{◌∙◌}
+use Rattle.pgr_search.proofs.GuidedSearch.{starts_guiding, known_labelled, known_all, nearest_below, nearest_waits, is_estimated, label_fits, round_fits, round_guiding, fewer_left}
+use Rattle.pgr_search.proofs.guided.guide.Goals as goal
+
+pub loop-keys-init : goal.loop-keys-init
+loop-keys-init g c = starts_guiding (g.G.Graph.count c.args.g.now) (g.G.Graph.ins c.args.g.now) c.args.targets.now (g.E.Estimate.values c.args.estimate.now) c.clear.new.self c.mark_with_estimates.new.keys (c.clear.ensures.size ∙ c.requires.settled) (c.mark_with_estimates.ensures.size ∙ c.requires.keys) c.clear.ensures.none c.mark_with_estimates.ensures.marks
+
+pub loop-keys-preserved : goal.loop-keys-preserved
+loop-keys-preserved g c = round_guiding _ _ _ (g.met.G.Graph.lawful c.args.g.now) _ _ c.requires.consistent _ _ c.loop-keys.invariant c.in-Some.nearest c.in-Some.ensures.least c.settle_guided.new.settled c.settle_guided.new.keys c.settle_guided.ensures.settled c.settle_guided.ensures.keys
+
+pub loop-keys-smaller : goal.loop-keys-smaller
+loop-keys-smaller g c = fewer_left _ _ _ (g.met.G.Graph.lawful c.args.g.now) _ _ c.requires.consistent _ _ c.loop-keys.invariant c.in-Some.nearest c.in-Some.ensures.least c.settle_guided.new.settled c.settle_guided.new.keys c.settle_guided.ensures.settled c.settle_guided.ensures.keys
+
+pub settle_guided-requires : goal.settle_guided-requires
+settle_guided-requires g c =
+    let run = c.loop-keys.invariant in
+    let lawful = g.met.G.Graph.lawful c.args.g.now in
+    let n = c.in-Some.ensures.least in
+    record {
+      vertex = nearest_below _ _ _ lawful _ _ c.requires.consistent _ _ run c.in-Some.nearest n;
+      size = c.requires.size;
+      settled = run.settled_len;
+      keys = run.keys_len;
+      waits = nearest_waits _ _ _ lawful _ _ c.requires.consistent _ _ run c.in-Some.nearest n;
+      estimated = is_estimated _ _ _ lawful _ _ c.requires.consistent _ _ run c.in-Some.nearest n;
+      fits = label_fits _ _ _ lawful _ _ c.requires.consistent _ _ run c.in-Some.nearest n c.requires.few c.requires.fits c.requires.small c.least_labels_are_small.ensures;
+      links = round_fits _ _ _ lawful _ _ c.requires.consistent _ _ run c.in-Some.nearest n c.requires.few c.requires.fits c.requires.small c.least_labels_are_small.ensures;
+    }
+
+pub returns-in-None-clause-labels : goal.returns-in-None-clause-labels
+returns-in-None-clause-labels g c = known_all _ _ _ (g.met.G.Graph.lawful c.args.g.now) _ _ c.requires.consistent _ _ c.loop-keys.invariant c.in-None.ensures.none c.args.start
+
+pub returns-clause-labels : goal.returns-clause-labels
+returns-clause-labels g c = known_labelled _ _ _ (g.met.G.Graph.lawful c.args.g.now) _ _ c.requires.consistent _ _ c.loop-keys.invariant c.args.start c.label.result c.label.ensures c.loop-keys-test.ensures
