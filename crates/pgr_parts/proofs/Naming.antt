@@ -16,9 +16,6 @@ pub record AreNamedUpTo (members : List ℕ) (n name : ℕ) (before now : List S
   pub others : (v : ℕ) → ((k : ℕ) → k < n → k < length members → get_or members k 0 ≡ v → ⊥) → get_or now v Unseen ≡ get_or before v Unseen
   pub fewer : count_by is_unseen now ≤ count_by is_unseen before
 
-pub AreNamedUpTo-none : (members : List ℕ) (name : ℕ) (before : List Standing) → AreNamedUpTo members 0 name before before
-AreNamedUpTo-none members name before = record { size_is = refl; named = λ k lt. absurd (omega arith); others = λ v none. refl; fewer = omega arith }
-
 pub AreNamedUpTo-more : (members : List ℕ) (n name v : ℕ) (before now : List Standing) → AreNamedUpTo members n name before now → n < length members → v ≡ get_or members n 0
     → v < length before → AreNamedUpTo members (n + 1) name before (set now v (Named name))
 AreNamedUpTo-more members n name v before now h inside is below = record {
@@ -54,7 +51,3 @@ AreNamed-same members members' name before before' after after' e f g h =
     let Q : List Standing → Type 0 = λ xs. AreNamed members name xs after' in
     let R : List Standing → Type 0 = λ xs. AreNamed members name before xs in
     subst P e (subst Q f (subst R (sym g) h))
-
--- the least so far
-pub least_of_all : (members : List ℕ) (n least : ℕ) → ((k : ℕ) → k < n → least ≤ get_or members k 0) → length members ≤ n → (u : ℕ) → Contains members u → least ≤ u
-least_of_all members n least so_far past u there = (let at = at_zero members u there in omega (arith, so_far there.0 (omega (arith, there.1))))

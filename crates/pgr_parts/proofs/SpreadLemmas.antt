@@ -22,21 +22,6 @@ pub record IsSpreading (lists : List (List ℕ)) (root : ℕ) (names : List (Opt
   pub below : (v : ℕ) → v < root → HasName names v
   pub begun : HasName names root ⊎ Contains waiting root
 
--- the beginning: the root alone waits
-pub spreading_begins : (lists : List (List ℕ)) (root : ℕ) (names : List (Option ℕ)) (waiting old : List ℕ) → root < length lists → AreSpread lists root names → old ≡ []
-    → waiting ≡ old ++ root ∷ [] → IsSpreading lists root names waiting
-spreading_begins lists root names waiting old inside s e f = subst (IsSpreading lists root names) (sym (f ∙ ap (λ xs. xs ++ root ∷ []) e)) (record {
-  size_is = s.size_is;
-  sound = s.sound;
-  closed = λ v m w named here. inl (s.closed v m w named here);
-  waits = λ w there. (let is : root ≡ w = only w there in (subst (λ x. x < length lists) is inside, subst (λ x. Leads lists root x) is (leads_to_itself lists root)));
-  below = s.below;
-  begun = inr (0, omega arith, refl);
-})
-  where
-    only : (w : ℕ) → Contains (root ∷ []) w → root ≡ w
-    only w there = ⊎_elim (λ none. absurd (omega (arith, none.1))) (λ is. is) (Contains-push_cases [] root w there)
-
 -- the end: nothing waits
 pub spreading_ends : (lists : List (List ℕ)) (root : ℕ) (names : List (Option ℕ)) (waiting : List ℕ) → IsSpreading lists root names waiting → waiting ≡ []
     → AreSpread lists (root + 1) names
@@ -172,31 +157,6 @@ spreading_turns lists root v names names' old rest waiting' within back spreadin
 -- the popped vertex is below the size
 pub waiting_below : (lists : List (List ℕ)) (root v : ℕ) (names : List (Option ℕ)) (old rest : List ℕ) → IsSpreading lists root names old → old ≡ rest ++ v ∷ [] → v < length lists
 waiting_below lists root v names old rest spreading popped = (spreading.waits v (subst (λ xs. Contains xs v) (sym popped) (Contains-push rest v))).0
-
--- no name for any of so many vertices
-abbrev unnamed : ℕ → List (Option ℕ)
-unnamed n = replicate n None
-
-length-unnamed : (n : ℕ) → length (unnamed n) ≡ n
-length-unnamed n = length-replicate n None
-
-past_unnamed : (n v : ℕ) → n ≤ v → get_or (unnamed n) v None ≡ None
-past_unnamed n v past = get_or_past (unnamed n) v None (subst (λ m. m ≤ v) (sym (length-unnamed n)) past)
-
--- no name yet
-pub spread_begins : (lists : List (List ℕ)) (names : List (Option ℕ)) → names ≡ replicate (length lists) None → AreSpread lists 0 names
-spread_begins lists names e = subst (AreSpread lists 0) (sym e) (record {
-  size_is = length-replicate (length lists) None;
-  sound = λ v m named. absurd (none v m named);
-  closed = λ v m w named here. absurd (none v m named);
-  below = λ v lt. absurd (omega arith);
-})
-  where
-    nothing : (v : ℕ) → get_or (unnamed (length lists)) v None ≡ None
-    nothing v = ⊎_elim (λ lt. get_or-replicate (length lists) v None None lt) (past_unnamed (length lists) v) (cases_lt v (length lists))
-
-    none : (v m : ℕ) → get_or (unnamed (length lists)) v None ≡ Some m → ⊥
-    none v m named = let clash : None ≡ Some m = sym (nothing v) ∙ named in cc
 
 -- once each vertex has a name
 pub all_named : (lists : List (List ℕ)) (bound : ℕ) (names slice : List (Option ℕ)) → AreSpread lists bound names → length lists ≤ bound → slice ≡ names → All IsSome slice

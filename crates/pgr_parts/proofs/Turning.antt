@@ -210,36 +210,6 @@ follows_root lists S S' w below g idle h =
     let size = ap length idle in
     goes_on lists S g.sound w below (λ p lt. absurd (omega arith)) (λ p x lt there. absurd (omega arith)) S' h
 
--- nothing was found yet
-pub starts_searching : (lists : List (List ℕ)) (S : State) → S ≡ start (length lists) → IsSearching lists S
-starts_searching lists S e = subst (IsSearching lists) (sym e) (record {
-  sound = record {
-    size_is = length-replicate (length lists) Unseen;
-    stands = λ p lt. absurd (omega arith);
-    on_path = λ v p is. absurd (let clash : Unseen ≡ Waiting p = sym (unseen v) ∙ is in cc);
-    rising = λ i j before lt. absurd (omega arith);
-    inside = λ f there. absurd (let lt = there.1 in omega arith);
-    from_start = λ some. absurd (omega arith);
-    groups = λ p q lt lt' later. absurd (omega arith);
-    lead_is = λ lead there. absurd (let lt = there.1 in omega arith);
-    in_order = λ i j d before lt. absurd (omega arith);
-    named_closed = λ v m w is there. absurd (let clash : Unseen ≡ Named m = sym (unseen v) ∙ is in cc);
-    named_well = λ v m is. absurd (let clash : Unseen ≡ Named m = sym (unseen v) ∙ is in cc);
-    named_least = λ v m u is both. absurd (let clash : Unseen ≡ Named m = sym (unseen v) ∙ is in cc);
-    room = (let most = count_by-le-length is_unseen (replicate (length lists) Unseen) in let size = length-replicate (length lists) Unseen in omega arith);
-  };
-  followed = λ p w lt there. absurd (omega arith);
-})
-  where
-    unseen : (v : ℕ) → get_or (replicate (length lists) Unseen) v Unseen ≡ Unseen
-    unseen v = ⊎_elim (λ lt. get_or-replicate (length lists) v Unseen Unseen lt)
-        (λ past. get_or_past (replicate (length lists) Unseen) v Unseen (let size = length-replicate (length lists) Unseen in omega arith)) (cases_lt v (length lists))
-
--- a path that is not empty has a group
-pub idle_path : (lists : List (List ℕ)) (S : State) → IsSearching lists S → length S.firsts ≡ 0 → S.path ≡ []
-idle_path lists S g none = nil_from_length S.path (⊎_elim (λ (some : 0 < length S.path). absurd (let lt = (g.sound.from_start some).1 in omega arith))
-    (λ (le : length S.path ≤ 0). omega arith) (cases_lt 0 (length S.path)))
-
 -- what the code needs of a search: the groups begin in order, within the path, which has vertices only
 pub firsts_rise : (lists : List (List ℕ)) (S : State) → IsSearching lists S → IsNonDecreasingBy (λ first. first) S.firsts
 firsts_rise lists S g i j d before lt = ⊎_elim
@@ -251,10 +221,6 @@ firsts_inside lists S g k d lt = g.sound.inside (get_or S.firsts k d) (Contains-
 
 pub path_inside : (lists : List (List ℕ)) (S : State) → IsSearching lists S → All (λ v. v < length S.standing) S.path
 path_inside lists S g k d lt = (let below = path_below lists S g.sound k lt in omega (arith, get_or_default S.path k d 0 lt, g.sound.size_is))
-
--- the path has room for places of 32 bits
-pub path_small : (lists : List (List ℕ)) (S : State) → length lists < 2 ^ 32 → IsSearching lists S → length S.path < 2 ^ 32
-path_small lists S small g = omega (arith, g.sound.room)
 
 -- once every vertex was found and none stands on the path, each has a name
 pub has_name : (lists : List (List ℕ)) (S : State) → IsSearching lists S → S.path ≡ [] → (v : ℕ) → IsFound S v → (m : ℕ) × (standing_of S v ≡ Named m)

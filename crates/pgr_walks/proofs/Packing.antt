@@ -13,15 +13,6 @@ pub record AreUpTo (of : ℕ → List ℕ) (n : ℕ) (starts items : List ℕ) :
   pub inside : (k : ℕ) → k < n → get_or starts (k + 1) 0 ≤ length items
   pub each : (k : ℕ) → k < n → piece starts items k ≡ of k
 
-pub none_yet : (of : ℕ → List ℕ) (starts items : List ℕ) → starts ≡ 0 ∷ [] → items ≡ [] → AreUpTo of 0 starts items
-none_yet of starts items e f = record {
-  count = ap length e;
-  last = ap (λ xs. get_or xs 0 0) e ∙ sym (ap length f);
-  rise = λ k h. absurd (omega arith);
-  inside = λ k h. absurd (omega arith);
-  each = λ k h. absurd (omega arith);
-}
-
 -- a piece, by its two places
 piece_by : (starts starts' items items' : List ℕ) (k : ℕ) → get_or starts' k 0 ≡ get_or starts k 0 → get_or starts' (k + 1) 0 ≡ get_or starts (k + 1) 0
     → take (get_or starts (k + 1) 0 - get_or starts k 0) (drop (get_or starts k 0) items') ≡ take (get_or starts (k + 1) 0 - get_or starts k 0) (drop (get_or starts k 0) items)
@@ -99,14 +90,6 @@ AreUpTo-more of n starts items starts' items' ys last h here e at f =
     subst P (sym starts_are) (subst Q (sym e) (one_list_more of n starts items ys here h))
 
 -- all lists
-pub ArePlaces-from_all : (of : ℕ → List ℕ) (n : ℕ) (starts items : List ℕ) → n < 2 ^ 32 → AreUpTo of n starts items → ArePlaces starts items
-ArePlaces-from_all of n starts items small h = record {
-  some = omega (arith, h.count);
-  few = omega (arith, h.count);
-  rise = λ k below. h.rise k (omega (arith, h.count));
-  inside = λ k below. h.inside k (omega (arith, h.count));
-}
-
 pub AreListsOf-from_all : (of : ℕ → List ℕ) (n size : ℕ) (starts items : List ℕ) → AreUpTo of n starts items → n ≡ size → AreListsOf size of (pieces starts items)
 AreListsOf-from_all of n size starts items h e = record {
   size_is = length-map-range_with_len (piece starts items) 0 (length starts - 1) ∙ omega (arith, h.count);
