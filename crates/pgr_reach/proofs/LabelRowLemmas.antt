@@ -27,18 +27,19 @@ less m n h = grind arith
 rise_push : {X : Type 0} (cmp : X → X → Ordering) (xs : List X) (y : X) → IsStrictlyRising cmp xs → ((x : X) → Contains xs x → cmp x y ≡ Less) → IsStrictlyRising cmp (xs ++ y ∷ [])
 rise_push {X = X} cmp xs y rise last i j d before inside =
     ⊎_elim
-      (λ early. ap (λ a. cmp a (get_or (xs ++ y ∷ []) j d)) (get_or_append_left xs (y ∷ []) d i (omega arith)) ∙ (ap (λ b. cmp (get_or xs i d) b) (get_or_append_left xs (y ∷ []) d j early) ∙ rise i j d before early))
-      (λ late.
-        let i_in : i < length xs = omega (arith, before, late) in
-        let at_end : get_or (xs ++ y ∷ []) j d ≡ y = ap (λ k. get_or (xs ++ y ∷ []) k d) (omega (arith, late)) ∙ get_or-append-add xs (y ∷ []) 0 d in
-        ap (λ a. cmp a (get_or (xs ++ y ∷ []) j d)) (get_or_append_left xs (y ∷ []) d i i_in)
-        ∙ (ap (λ b. cmp (get_or xs i d) b) at_end ∙ last (get_or xs i d) (i, i_in, same_default xs i d i_in)))
-      (split j (length xs) (omega (arith, inside, length-append xs (y ∷ []))))
+    (λ early. ap (λ a. cmp a (get_or (xs ++ y ∷ []) j d)) (get_or_append_left xs (y ∷ []) d i (omega arith)) ∙ (ap (λ b. cmp (get_or xs i d) b) (get_or_append_left xs (y ∷ []) d j early) ∙ rise i j d before early))
+    (λ late.
+    let i_in : i < length xs = omega (arith, before, late) in
+    let at_end : get_or (xs ++ y ∷ []) j d ≡ y = ap (λ k. get_or (xs ++ y ∷ []) k d) (omega (arith, late)) ∙ get_or-append-add xs (y ∷ []) 0 d in
+    ap (λ a. cmp a (get_or (xs ++ y ∷ []) j d)) (get_or_append_left xs (y ∷ []) d i i_in)
+    ∙ (ap (λ b. cmp (get_or xs i d) b) at_end ∙ last (get_or xs i d) (i, i_in, same_default xs i d i_in)))
+    (split j (length xs) (omega (arith, inside, length-append xs (y ∷ []))))
   where
-  split : (j n : ℕ) → j < n + 1 → (j < n) ⊎ (j ≡ n + 0)
-  split j n h = grind arith
-  same_default : (xs : List X) (k : ℕ) (e : X) → k < length xs → get_or xs k (get_or xs k e) ≡ get_or xs k e
-  same_default xs k e inside = search (rules, arith, common_steps)
+    split : (j n : ℕ) → j < n + 1 → (j < n) ⊎ (j ≡ n + 0)
+    split j n h = grind arith
+
+    same_default : (xs : List X) (k : ℕ) (e : X) → k < length xs → get_or xs k (get_or xs k e) ≡ get_or xs k e
+    same_default xs k e inside = search (rules, arith, common_steps)
 
 none_and_some : (o : Option Label) (label : Label) → o ≡ None → o ≡ Some label → ⊥
 none_and_some o label none some = cc
@@ -55,8 +56,8 @@ module _ (outs : ℕ → List (LinkOf ℕ)) (labels : List (Option Label)) (root
     rise = are.rise;
   }
     where
-    early_or_next : (u : ℕ) → u < v + 1 → (u < v) ⊎ (u ≡ v)
-    early_or_next u h = grind arith
+      early_or_next : (u : ℕ) → u < v + 1 → (u < v) ⊎ (u ≡ v)
+      early_or_next u h = grind arith
 
   -- the next vertex has a label
   pub next_some : (row : ReachedOf ℕ) → row.node ≡ v → label_at labels v ≡ Some row.label → IsLinkRow (outs v) labels root row → AreRowsBelow outs labels root (v + 1) (rows ++ row ∷ [])
@@ -68,8 +69,8 @@ module _ (outs : ℕ → List (LinkOf ℕ)) (labels : List (Option Label)) (root
     });
     every = λ u l below has. ⊎_elim (λ early. Any-append_left _ rows (row ∷ []) (are.every u l early has)) (λ is. Any-push (λ r. r.node ≡ u) rows row (node ∙ sym is)) (early_or_next u below);
     rise = rise_push (λ a b. nat_cmp a.node b.node) rows row are.rise
-      (λ other has. less other.node row.node (omega (arith, (All-contains (IsLabelRow outs labels root v) rows other are.each has).below, node)));
+        (λ other has. less other.node row.node (omega (arith, (All-contains (IsLabelRow outs labels root v) rows other are.each has).below, node)));
   }
     where
-    early_or_next : (u : ℕ) → u < v + 1 → (u < v) ⊎ (u ≡ v)
-    early_or_next u h = grind arith
+      early_or_next : (u : ℕ) → u < v + 1 → (u < v) ⊎ (u ≡ v)
+      early_or_next u h = grind arith

@@ -77,10 +77,10 @@ row_total = then_total (on_total (λ (row : ReachedOf ℕ). row.label.cost) nat_
 apart_nodes : (a b : ReachedOf ℕ) → nat_cmp a.node b.node ≡ Less → eq_by_cmp (row_cmp nat_cmp) a b ≡ false
 apart_nodes a b e = by (nat_cmp a.label.cost b.label.cost)
   where
-  by : (o : Ordering) → is_eq (ordering_then o (nat_cmp a.node b.node)) ≡ false
-  by Less = refl
-  by Equal = ap is_eq e
-  by Greater = refl
+    by : (o : Ordering) → is_eq (ordering_then o (nat_cmp a.node b.node)) ≡ false
+    by Less = refl
+    by Equal = ap is_eq e
+    by Greater = refl
 
 -- rows of different vertices, once sorted, rise strictly
 rows_rise : (rows sorted : List (ReachedOf ℕ)) → IsStrictlyRising (λ a b. nat_cmp a.node b.node) rows → IsPermutation rows sorted → IsSorted (row_cmp nat_cmp) sorted → IsStrictlyRising (row_cmp nat_cmp) sorted
@@ -88,7 +88,7 @@ rows_rise rows sorted rise moved in_order i j d before inside =
     let distinct = IsDistinct-from_apart (eq_by_cmp (row_cmp nat_cmp)) rows (λ i j d before inside. apart_nodes (get_or rows i d) (get_or rows j d) (rise i j d before inside)) in
     let differ = IsDistinct-IsPermutation (eq_by_cmp (row_cmp nat_cmp)) (eq_by_cmp_equiv row_total).symm rows sorted moved distinct in
     less_by_rest (row_cmp nat_cmp (get_or sorted i d) (get_or sorted j d)) (row_cmp nat_cmp (get_or sorted j d) (get_or sorted i d)) (row_total.antisymm (get_or sorted i d) (get_or sorted j d)) (apart_from_distinct (eq_by_cmp (row_cmp nat_cmp)) sorted i j d differ before inside)
-      (sorted_far (λ x y. is_lt (row_cmp nat_cmp x y)) (ranks_by row_total (λ x. x)) sorted in_order i j d (omega arith) inside)
+    (sorted_far (λ x y. is_lt (row_cmp nat_cmp x y)) (ranks_by row_total (λ x. x)) sorted in_order i j d (omega arith) inside)
 
 -- what some row has is had by some row after a permutation
 Any-permutation : {X : Type 0} (P : X → Type 0) (xs ys : List X) → IsPermutation xs ys → Any P xs → Any P ys
@@ -103,7 +103,6 @@ module _ (size : ℕ) (outs ins : ℕ → List (LinkOf ℕ)) (lawful : IsLawful 
     (keeps : KeepsLimit back_size Back (root ∷ []) limit labels)
     (some_tight : (v : ℕ) → IsSome (label_at labels v) → Contains (root ∷ []) v ⊎ ((link : LinkOf ℕ) × (Contains (back_outs v) link × IsTight labels link)))
     (no_tight : (v : ℕ) (link : LinkOf ℕ) → Contains (root ∷ []) v → link.from ≡ v → IsTight labels link → ⊥) where
-
   abbrev Has : LinkOf ℕ → Type 0
   Has = IsLinkOf size ins
 
@@ -133,22 +132,24 @@ module _ (size : ℕ) (outs ins : ℕ → List (LinkOf ℕ)) (lawful : IsLawful 
   tight_back : (v : ℕ) (here : Label) → v < size → label_at labels v ≡ Some here → (link : LinkOf ℕ) → Has link → link.to ≡ v → IsTightFrom Has root link → IsTight labels (turned link)
   tight_back v here below here_is link has leads tight = by (label_at labels link.from) refl
     where
-    here_from : here ≡ beyond tight.before link
-    here_from = one_label Has root v here (beyond tight.before link) (held v here here_is) (subst (λ w. IsLeastLabelFrom Has root w (beyond tight.before link)) leads tight.end)
-    from_below : link.from < size
-    from_below = ((lawful.at link.to has.0).in_ends link has.1).1
-    by : (o : Option Label) → label_at labels link.from ≡ o → IsTight labels (turned link)
-    by None e =
-        let least : IsLeastLabel Back (root ∷ []) link.from tight.before = (labels_are link.from (Some tight.before)).1 tight.start in
-        let below_it : AtMost here (label_of least.walk) = up_to.others link.from least.walk (omega (arith, from_below, same_size)) e least.leads v here here_is in
-        absurd (not_beyond tight.before link (subst (AtMost (beyond tight.before link)) least.label_is (subst (λ l. AtMost l (label_of least.walk)) here_from below_it)))
-    by (Some there) e = record {
-      here = here;
-      there = there;
-      here_is = subst (λ w. label_at labels w ≡ Some here) (sym leads) here_is;
-      there_is = e;
-      one_more = here_from ∙ ap (λ l. beyond l link) (one_label Has root link.from tight.before there tight.start (held link.from there e));
-    }
+      here_from : here ≡ beyond tight.before link
+      here_from = one_label Has root v here (beyond tight.before link) (held v here here_is) (subst (λ w. IsLeastLabelFrom Has root w (beyond tight.before link)) leads tight.end)
+
+      from_below : link.from < size
+      from_below = ((lawful.at link.to has.0).in_ends link has.1).1
+
+      by : (o : Option Label) → label_at labels link.from ≡ o → IsTight labels (turned link)
+      by None e =
+          let least : IsLeastLabel Back (root ∷ []) link.from tight.before = (labels_are link.from (Some tight.before)).1 tight.start in
+          let below_it : AtMost here (label_of least.walk) = up_to.others link.from least.walk (omega (arith, from_below, same_size)) e least.leads v here here_is in
+          absurd (not_beyond tight.before link (subst (AtMost (beyond tight.before link)) least.label_is (subst (λ l. AtMost l (label_of least.walk)) here_from below_it)))
+      by (Some there) e = record {
+        here = here;
+        there = there;
+        here_is = subst (λ w. label_at labels w ≡ Some here) (sym leads) here_is;
+        there_is = e;
+        one_more = here_from ∙ ap (λ l. beyond l link) (one_label Has root link.from tight.before there tight.start (held link.from there e));
+      }
 
   -- the first tight link is the tree link
   tree_link : (row : ReachedOf ℕ) → row.node < size → label_at labels row.node ≡ Some row.label → (has : HasLeastTight (back_outs row.node) labels row) → IsTreeLink nat_cmp Has root row.node (turned has.link)
@@ -159,19 +160,20 @@ module _ (size : ℕ) (outs ins : ℕ → List (LinkOf ℕ)) (lawful : IsLawful 
     least = none_less;
   }
     where
-    none_less : (other : LinkOf ℕ) → Has other → other.to ≡ row.node → IsTightFrom Has root other → entry_cmp nat_cmp other (turned has.link) ≢ Less
-    none_less other has_other leads tight is_less =
-        let among : Contains (back_outs row.node) (turned other) = subst (λ ls. Contains ls (turned other)) (sym (outs_are row.node)) (turned_among (ins row.node) other (subst (λ w. Contains (ins w) other) leads has_other.1)) in
-        let differ : turned other ≢ has.link = λ e. differ_by (entry_cmp nat_cmp other (turned has.link)) is_less (ap (λ l. entry_cmp nat_cmp (turned l) (turned has.link)) e ∙ tied_itself (entry_total nat_cmp nat_cmp_total) (turned has.link)) in
-        both_less (entry_cmp nat_cmp other (turned has.link)) (entry_cmp nat_cmp (turned has.link) other) ((entry_total nat_cmp nat_cmp_total).antisymm other (turned has.link)) is_less
+      none_less : (other : LinkOf ℕ) → Has other → other.to ≡ row.node → IsTightFrom Has root other → entry_cmp nat_cmp other (turned has.link) ≢ Less
+      none_less other has_other leads tight is_less =
+          let among : Contains (back_outs row.node) (turned other) = subst (λ ls. Contains ls (turned other)) (sym (outs_are row.node)) (turned_among (ins row.node) other (subst (λ w. Contains (ins w) other) leads has_other.1)) in
+          let differ : turned other ≢ has.link = λ e. differ_by (entry_cmp nat_cmp other (turned has.link)) is_less (ap (λ l. entry_cmp nat_cmp (turned l) (turned has.link)) e ∙ tied_itself (entry_total nat_cmp nat_cmp_total) (turned has.link)) in
+          both_less (entry_cmp nat_cmp other (turned has.link)) (entry_cmp nat_cmp (turned has.link) other) ((entry_total nat_cmp nat_cmp_total).antisymm other (turned has.link)) is_less
           (has.least.least (turned other) among (tight_back row.node row.label below label_is other has_other leads tight) differ)
-      where
-      differ_by : (o : Ordering) → o ≡ Less → o ≡ Equal → ⊥
-      differ_by o e f = cc
-      both_less : (o p : Ordering) → o ≡ ordering_reverse p → o ≡ Less → p ≡ Less → ⊥
-      both_less o Less r e f = cc
-      both_less o Equal r e f = cc
-      both_less o Greater r e f = cc
+        where
+          differ_by : (o : Ordering) → o ≡ Less → o ≡ Equal → ⊥
+          differ_by o e f = cc
+
+          both_less : (o p : Ordering) → o ≡ ordering_reverse p → o ≡ Less → p ≡ Less → ⊥
+          both_less o Less r e f = cc
+          both_less o Equal r e f = cc
+          both_less o Greater r e f = cc
 
   -- one row
   row_within : (row : ReachedOf ℕ) → IsLabelRow back_outs labels root back_size row → IsRowWithin nat_cmp Has root limit row
@@ -181,22 +183,23 @@ module _ (size : ℕ) (outs ins : ℕ → List (LinkOf ℕ)) (lawful : IsLawful 
     link = ⊎_elim in_tree at_root is.link;
   }
     where
-    in_tree : HasLeastTight (back_outs row.node) labels row → IsRootRow root row ⊎ IsTreeRow nat_cmp Has root row
-    in_tree has = inr (record {
-      node = λ e. no_tight row.node has.link (0, omega arith, sym e) has.from has.least.tight;
-      link = turned has.link;
-      tree = tree_link row (omega (arith, is.below, same_size)) is.label has;
-      pred = has.pred;
-      edge = has.edge;
-      cost = has.cost;
-    })
-    at_root : HasNoTight (back_outs row.node) labels root row → IsRootRow root row ⊎ IsTreeRow nat_cmp Has root row
-    at_root none = inl (record {
-      node = ⊎_elim (one_target root row.node) (λ tight. absurd (none.none tight.0 tight.1.0 tight.1.1)) (some_tight row.node (some_there (label_at labels row.node) row.label is.label));
-      pred = none.pred;
-      edge = none.edge;
-      cost = none.cost;
-    })
+      in_tree : HasLeastTight (back_outs row.node) labels row → IsRootRow root row ⊎ IsTreeRow nat_cmp Has root row
+      in_tree has = inr (record {
+        node = λ e. no_tight row.node has.link (0, omega arith, sym e) has.from has.least.tight;
+        link = turned has.link;
+        tree = tree_link row (omega (arith, is.below, same_size)) is.label has;
+        pred = has.pred;
+        edge = has.edge;
+        cost = has.cost;
+      })
+
+      at_root : HasNoTight (back_outs row.node) labels root row → IsRootRow root row ⊎ IsTreeRow nat_cmp Has root row
+      at_root none = inl (record {
+        node = ⊎_elim (one_target root row.node) (λ tight. absurd (none.none tight.0 tight.1.0 tight.1.1)) (some_tight row.node (some_there (label_at labels row.node) row.label is.label));
+        pred = none.pred;
+        edge = none.edge;
+        cost = none.cost;
+      })
 
   -- a walk from the root ends below the size
   end_below : (s : ℕ) (walk : List (LinkOf ℕ)) (v : ℕ) → s < size → IsWalk Has s walk v → v < size
@@ -207,20 +210,20 @@ module _ (size : ℕ) (outs ins : ℕ → List (LinkOf ℕ)) (lawful : IsLawful 
   label_within : (v : ℕ) (label : Label) → IsLeastLabelFrom Has root v label → label.cost ≤ limit → (here : Label) × (label_at labels v ≡ Some here)
   label_within v label least within = by (label_at labels v) refl
     where
-    by : (o : Option Label) → label_at labels v ≡ o → (here : Label) × (label_at labels v ≡ Some here)
-    by None e =
-        let back : IsLeastLabel Back (root ∷ []) v label = (labels_are v (Some label)).1 least in
-        let cost = ap (λ l. l.cost) back.label_is in
-        let past = keeps.beyond_it v back.walk (omega (arith, end_below root least.walk v root_below least.is_walk, same_size)) e back.leads in
-        absurd (omega (arith, past, cost, within))
-    by (Some here) e = (here, e)
+      by : (o : Option Label) → label_at labels v ≡ o → (here : Label) × (label_at labels v ≡ Some here)
+      by None e =
+          let back : IsLeastLabel Back (root ∷ []) v label = (labels_are v (Some label)).1 least in
+          let cost = ap (λ l. l.cost) back.label_is in
+          let past = keeps.beyond_it v back.walk (omega (arith, end_below root least.walk v root_below least.is_walk, same_size)) e back.leads in
+          absurd (omega (arith, past, cost, within))
+      by (Some here) e = (here, e)
 
   -- all rows
   pub rows_within : (rows sorted : List (ReachedOf ℕ)) → AreRowsBelow back_outs labels root back_size rows → IsPermutation rows sorted → IsSorted (row_cmp nat_cmp) sorted → AreWithin nat_cmp Has root limit sorted
   rows_within rows sorted are moved in_order = record {
     each = All-permutation (IsRowWithin nat_cmp Has root limit) rows sorted moved (All-follows _ _ rows row_within are.each);
     every = λ v label least within.
-      let here = label_within v label least within in
-      Any-permutation (λ row. row.node ≡ v) rows sorted moved (are.every v here.0 (omega (arith, end_below root least.walk v root_below least.is_walk, same_size)) here.1);
+        let here = label_within v label least within in
+        Any-permutation (λ row. row.node ≡ v) rows sorted moved (are.every v here.0 (omega (arith, end_below root least.walk v root_below least.is_walk, same_size)) here.1);
     rise = rows_rise rows sorted are.rise moved in_order;
   }

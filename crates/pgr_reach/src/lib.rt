@@ -10,6 +10,8 @@
 mod closest;
 mod limited;
 mod reach;
+#[cfg(test)]
+mod tests;
 
 pub use closest::equicost;
 pub use limited::within;
