@@ -11,7 +11,7 @@ use std::{fs, io};
 ///
 /// A read at 0 opens the file anew, and it is kept open. A read of that name at the number of bytes that were
 /// read since then reads on; a read at any other place opens the file anew and drops the bytes before the place.
-/// It tells no content. Each error of the system raises one count of faults, which is that of every name.
+/// No content is known of it. Each error of the system raises one count of faults, which is that of every name.
 #[derive(Drop)]
 pub struct FileStore<'a, R: Files> {
     rt: &'a R,

@@ -1,8 +1,8 @@
 //! The program `pgr`: a command line over the files of the system, to standard output.
 //!
 //! [`FileStore`] reads the system's files, [`StreamSink`] writes to a stream, and `main` hands the arguments
-//! over and ends with the number of the status. Both are the trusted edge: they keep the laws of their traits
-//! and tell no content, so nothing is proved of the bytes of a real file or of a stream.
+//! over and ends with the number of the status. Both are the trusted edge: they keep the laws of their traits, and
+//! neither content nor what was written is known of them, so nothing is proved of the bytes of a real file or of a stream.
 #![tactic(auto)]
 
 mod file_store;
@@ -25,15 +25,20 @@ const NO_MEMORY: u8 = 5;
 const NO_TEXT: u8 = 6;
 
 fn main(rt: HostRuntime) -> ExitCode {
-    match arguments(&rt) {
+    ExitCode::from(exit_status(&rt))
+}
+
+/// Runs the arguments of the process over the files of the system, and returns the exit status.
+fn exit_status(rt: &HostRuntime) -> u8 {
+    match arguments(rt) {
         Ok(words) => {
-            let mut store = FileStore::new(&rt, rt.alloc());
+            let mut store = FileStore::new(rt, rt.alloc());
             let mut out = StreamSink::new(rt.stdout());
             let mut err = StreamSink::new(rt.stderr());
             let status = run(rt.alloc(), words.as_slice(), &mut store, &mut out, &mut err);
-            ExitCode::from(status.number())
+            status.number()
         }
-        Err(status) => ExitCode::from(status),
+        Err(status) => status,
     }
 }
 

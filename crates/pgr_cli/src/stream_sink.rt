@@ -6,7 +6,7 @@ use std::io::Write;
 
 /// A stream of the system, written and flushed piece by piece.
 ///
-/// It doesn't tell what was written. Each error of the system raises its count of faults, and so does a write
+/// What was written to it isn't known. Each error of the system raises its count of faults, and so does a write
 /// that takes nothing of a piece that isn't empty.
 #[derive(Drop)]
 pub struct StreamSink<W> {
