@@ -1,11 +1,10 @@
 ghost use Rattle.std.specs.Prelude.{◌≡◌};
 ghost use Rattle.pgr_outside.specs.Parts.{parts_text};
-ghost use Rattle.pgr_run.specs.Messages.{message_of, text_of, table_text, refused_text};
+ghost use Rattle.pgr_run.specs.Messages.{message_of, text_of, refused_text};
 
 use crate::cause::Cause;
 use pgr_answer::Refused;
 use pgr_outside::Part;
-use pgr_table::TableFault;
 
 /// No words, where a text has fewer parts than there is room for.
 const NONE: Part<'static> = Part::Words("");
@@ -54,62 +53,10 @@ fn refusal(refused: Refused) -> [Part<'static>; 6]
             NONE,
         ],
         Refused::Table(role, fault) => {
-            let [a, b, c, d] = table(fault);
+            let [a, b, c, d] = fault.parts();
             [Part::Words(role.name()), Part::Words(": "), a, b, c, d]
         }
         Refused::Memory => [Part::Words("want of memory"), NONE, NONE, NONE, NONE, NONE],
-    }
-}
-
-fn table(fault: TableFault) -> [Part<'static>; 4]
-    ensures { parts_text result ≡ table_text fault }
-{
-    let record = Part::Words("record ");
-    let column_is = Part::Words("column ");
-    match fault {
-        TableFault::NoHeader => [Part::Words("no header"), NONE, NONE, NONE],
-        TableFault::UnevenRecord(number) => [
-            record,
-            Part::Number(number),
-            Part::Words(" is uneven"),
-            NONE,
-        ],
-        TableFault::MissingColumn(column) => [
-            column_is,
-            Part::Words(column.name()),
-            Part::Words(" missing"),
-            NONE,
-        ],
-        TableFault::RepeatedColumn(column) => [
-            column_is,
-            Part::Words(column.name()),
-            Part::Words(" repeated"),
-            NONE,
-        ],
-        TableFault::BadField(number, column) => [
-            record,
-            Part::Number(number),
-            Part::Words(": bad "),
-            Part::Words(column.name()),
-        ],
-        TableFault::DuplicateId(number) => [
-            record,
-            Part::Number(number),
-            Part::Words(": id repeated"),
-            NONE,
-        ],
-        TableFault::TooManyRows(number) => [
-            record,
-            Part::Number(number),
-            Part::Words(": too many rows"),
-            NONE,
-        ],
-        TableFault::CostSum(number) => [
-            record,
-            Part::Number(number),
-            Part::Words(": sum too large"),
-            NONE,
-        ],
     }
 }
 
@@ -118,7 +65,7 @@ mod tests {
     use super::*;
     use pgr_answer::Role;
     use pgr_outside::{MemorySink, write_parts};
-    use pgr_table::Column;
+    use pgr_table::{Column, TableFault};
     use pgr_words::{OptionName, WordFault};
     use std::process::Abort;
     use std::test::Fail;
