@@ -1,17 +1,17 @@
 -- How names spread: what the loop over waiting vertices keeps, one turn of it, and what it leaves.
-use Rattle.std.proofs.Common.{◌≡◌, ℕ, ◌+◌, ◌*◌, ◌<◌, ◌≤◌, ◌++◌, ◌⊎◌, inl, inr, ⊎_elim, List, [], ◌∷◌, Option, Some, None, Contains, length, get_or, set, map, refl, sym, ap, ◌∙◌, subst, subst₂, arith, unwrap_or, All, IsSome, replicate, cond, count_by}
+use Rattle.std.proofs.Common.{◌≡◌, ℕ, ◌+◌, ◌*◌, ◌<◌, ◌≤◌, ◌++◌, ◌⊎◌, inl, inr, ⊎_elim, List, [], ◌∷◌, Option, Some, None, Contains, length, get_or, set, map, refl, sym, ap, ◌∙◌, subst, subst₂, arith, unwrap_or, All, IsSome, cond, count_by}
 use Rattle.std.specs.List.{sum_by}
 use Rattle.std.specs.Option.{is_none}
 use Rattle.std.proofs.lemmas.List.Sums.{sum_by-set, get_or-le-sum_by}
 use Rattle.std.specs.Ordering.{nat_cmp}
 use Rattle.std.proofs.lemmas.Bool.{cases_eq, cases_lt}
-use Rattle.std.proofs.lemmas.List.{get_or-set_same, get_or-set_other, length-set, get_or_past, get_or-map, get_or-replicate, length-replicate, get_or_default, length-map, length-append}
+use Rattle.std.proofs.lemmas.List.{get_or-set_same, get_or-set_other, length-set, get_or-map, get_or_default, length-map, length-append}
 use Rattle.std.proofs.lemmas.List.Elements.{Contains-push_cases, Contains-push, Contains-append_left, Contains-append_right, Contains-append_cases}
 use Rattle.pgr_parts.specs.Classes.{IsClassName, AreClassNames}
 use Rattle.pgr_parts.specs.Trails.{Leads, AreWithin, AreMutual}
 use Rattle.pgr_parts.specs.Spreading.{HasName, AreSpread, IsNamedFrom}
 use Rattle.pgr_parts.proofs.Orders.{not_greater}
-use Rattle.pgr_parts.proofs.TrailLemmas.{leads_to_itself, leads_to, leads_back, stays_along}
+use Rattle.pgr_parts.proofs.TrailLemmas.{leads_to, leads_back, stays_along}
 
 -- while the root's name spreads: what is on the list of a named vertex has its name, or the name is the root's and it waits
 pub record IsSpreading (lists : List (List ℕ)) (root : ℕ) (names : List (Option ℕ)) (waiting : List ℕ) : Type 0 where

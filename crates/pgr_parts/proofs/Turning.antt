@@ -1,11 +1,11 @@
 -- One turn of the search: a lead is taken and followed, or the last group is closed.
-use Rattle.std.proofs.Common.{◌≡◌, ℕ, ◌+◌, ◌-◌, ◌*◌, ◌<◌, ◌≤◌, ◌++◌, ◌⊎◌, inl, inr, ⊎_elim, List, [], ◌∷◌, Contains, length, get_or, refl, sym, ap, ◌∙◌, subst, arith, count_by, All, IsSome, map, replicate, ◌^◌, Result}
+use Rattle.std.proofs.Common.{◌≡◌, ℕ, ◌+◌, ◌-◌, ◌*◌, ◌<◌, ◌≤◌, ◌++◌, ◌⊎◌, inl, inr, ⊎_elim, List, [], ◌∷◌, Contains, length, get_or, refl, sym, ap, ◌∙◌, subst, arith, count_by, All, IsSome, map, Result}
 use Rattle.std.specs.List.{sum_by, AllPairs}
 use Rattle.std.specs.List.Sorted.{IsNonDecreasingBy}
 use Rattle.std.proofs.lemmas.Bool.{cases_lt}
-use Rattle.std.proofs.lemmas.List.{length-append, length-map, length-take, get_or_append_left, length-replicate, get_or-replicate, get_or_past, get_or_default, get_or-map, nil_from_length}
+use Rattle.std.proofs.lemmas.List.{length-append, length-map, length-take, get_or_append_left, get_or_default, get_or-map}
 use Rattle.std.proofs.lemmas.List.Elements.{Contains-push_cases, Contains-push, Contains-append_left, Contains-get_or}
-use Rattle.std.proofs.lemmas.List.Sums.{get_or-le-sum_by, count_by-le-length}
+use Rattle.std.proofs.lemmas.List.Sums.{get_or-le-sum_by}
 use Rattle.std.specs.Result.{OnOk}
 use Rattle.std.proofs.lemmas.Result.{on_ok_weaker}
 use Rattle.std.proofs.Math.Nat.{mul-le-mul_right}
@@ -16,7 +16,7 @@ use Rattle.pgr_parts.specs.declared.lead.Lead.{Lead}
 use Rattle.pgr_parts.specs.Standings.{is_unseen, leads_from_place, name_of, name_at, AreAllNamed}
 use Rattle.pgr_parts.specs.Classes.{IsClassName, AreClassNames}
 use Rattle.pgr_parts.specs.Trails.{Leads, LeadBothWays, AreWithin}
-use Rattle.pgr_parts.specs.Grouping.{State, start, standing_of, IsSound, HasFollowed, AllFollowedBut, IsSearching, StaysFound, IsFound, IsFollowed, IsTaken, HasNoLead, IsClosed, work}
+use Rattle.pgr_parts.specs.Grouping.{State, standing_of, IsSound, HasFollowed, AllFollowedBut, IsSearching, StaysFound, IsFound, IsFollowed, IsTaken, HasNoLead, IsClosed, work}
 use Rattle.pgr_parts.proofs.Orders.{not_greater}
 use Rattle.pgr_parts.proofs.TrailLemmas.{leads_to}
 use Rattle.pgr_parts.proofs.Places.{standing_cases, at_most_last, path_below}

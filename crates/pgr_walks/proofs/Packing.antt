@@ -1,9 +1,9 @@
 -- Lists in one list, one after another.
-use Rattle.std.proofs.Common.{◌≡◌, ℕ, ◌+◌, ◌-◌, ◌^◌, ◌<◌, ◌≤◌, ◌++◌, ◌⊎◌, inl, inr, List, [], ◌∷◌, length, take, drop, get_or, refl, ap, ◌∙◌, sym, subst, arith}
+use Rattle.std.proofs.Common.{◌≡◌, ℕ, ◌+◌, ◌-◌, ◌<◌, ◌≤◌, ◌++◌, ◌⊎◌, inl, inr, List, [], ◌∷◌, length, take, drop, get_or, refl, ap, ◌∙◌, sym, subst, arith}
 use Rattle.std.proofs.lemmas.Bool.{cases_lt}
 use Rattle.std.proofs.lemmas.List.{append_assoc, length-append, get_or_append_left, get_or_push, drop-append-le, take-append-le, drop_at, take_all, length-drop}
 use Rattle.std.proofs.lemmas.List.FromFn.{length-map-range_with_len, get_or-map-range_with_len}
-use Rattle.pgr_walks.specs.Ends.{piece, pieces, ArePlaces, AreListsOf}
+use Rattle.pgr_walks.specs.Ends.{piece, pieces, AreListsOf}
 
 -- the lists of the vertices below n stand in one list
 pub record AreUpTo (of : ℕ → List ℕ) (n : ℕ) (starts items : List ℕ) : Type 0 where
