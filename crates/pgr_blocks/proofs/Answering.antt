@@ -1,16 +1,16 @@
 -- The three lists from the members of spans: classes, bridges and articulation points, each by its own definition.
-use Rattle.std.proofs.Common.{◌≡◌, ◌≢◌, ◌⊎◌, inl, inr, ⊎_elim, ℕ, zero, suc, ◌+◌, ◌<◌, ◌≤◌, Bool, true, false, not, ◌&&◌, cond, eqb, List, [], ◌∷◌, length, get_or, map, Option, Some, None, ℤ, ◌≤ℤ◌, refl, sym, subst, ◌∙◌, ap, arith, ◌↔◌, Ordering, Less, Equal, Greater}
+use Rattle.std.proofs.Common.{◌≡◌, ◌≢◌, ◌⊎◌, inl, inr, ⊎_elim, ℕ, zero, suc, ◌<◌, Bool, true, false, not, ◌&&◌, cond, eqb, List, [], ◌∷◌, length, get_or, map, Option, Some, None, ℤ, refl, sym, subst, ◌∙◌, ap, arith, Ordering, Less, Equal, Greater}
 use Rattle.std.specs.Bool.{MatchBool}
-use Rattle.std.specs.Cmp.{IsTotalOrder, signed_Decides}
+use Rattle.std.specs.Cmp.{IsTotalOrder}
 use Rattle.std.specs.List.{Contains, AllPairs, flat_map, IsDistinct}
 use Rattle.std.specs.List.Sorted.{IsPermutation, IsSorted}
-use Rattle.std.specs.Ordering.{int_cmp, int_eq, ordering_then, ordering_reverse, is_lt, is_eq}
-use Rattle.std.proofs.lemmas.Bool.{cases_Bool, both_ways, eqb-true, eqb-false, ne_eqb, true≢false, false≢true}
+use Rattle.std.specs.Ordering.{int_cmp, int_eq, ordering_reverse, is_lt, is_eq}
+use Rattle.std.proofs.lemmas.Bool.{cases_Bool, both_ways, eqb-false, ne_eqb, true≢false, false≢true}
 use Rattle.std.proofs.lemmas.Cmp.{int_cmp_total, int_eq_equiv, on_total, then_total}
 use Rattle.std.proofs.lemmas.List.Sorted.{sorted_far, ranks_by, Contains-permutation, IsPermutation-sym}
 use Rattle.std.proofs.lemmas.Map.Keys.{IsDistinct-from_apart, IsDistinct-IsPermutation, apart_from_distinct}
 use Rattle.pgr_outside.specs.Lists.{IsStrictlyRising}
-use Rattle.pgr_walks.specs.LinkOrders.{then_tie, int_tie}
+use Rattle.pgr_walks.specs.LinkOrders.{then_tie}
 use Rattle.pgr_numbers.specs.Names.{id_at}
 use Rattle.pgr_blocks.specs.declared.span.Span.{Span}
 use Rattle.pgr_blocks.specs.declared.classed.Classed.{Classed}
@@ -21,8 +21,8 @@ use Rattle.pgr_blocks.specs.Linked.{HasEnd}
 use Rattle.pgr_blocks.specs.Block.{LinkedOutside, InOneBlock, IsBlockName}
 use Rattle.pgr_blocks.specs.ArticulationPoint.{IsArticulationPoint}
 use Rattle.pgr_blocks.specs.Bridge.{IsBridge}
-use Rattle.pgr_blocks.specs.Lists.{HaveRisingEdges, AreClasses, ArePoints, AreBridges, IsClassed, classed_cmp}
-use Rattle.pgr_blocks.specs.Seen.{IsUnderKey, IsSeen, IsKnown, AreSeen, parts}
+use Rattle.pgr_blocks.specs.Lists.{HaveRisingEdges, AreClasses, ArePoints, AreBridges, classed_cmp}
+use Rattle.pgr_blocks.specs.Seen.{IsUnderKey, IsKnown, AreSeen, parts}
 use Rattle.pgr_blocks.specs.Member.{classed_of, bridge_of, corners_of, ArePointsAt}
 use Rattle.pgr_blocks.proofs.Outside.{cases_id, outside_of}
 use Rattle.pgr_blocks.proofs.Points.{point_between, no_point}

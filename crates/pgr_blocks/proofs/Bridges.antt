@@ -2,10 +2,10 @@
 use Rattle.std.proofs.Common.{◌≡◌, ◌≢◌, ◌⊎◌, inl, inr, ⊎_elim, List, [], ◌∷◌, ◌++◌, ℤ, refl, sym, subst, ◌∙◌}
 use Rattle.std.specs.List.{Contains}
 use Rattle.pgr_blocks.specs.declared.span.Span.{Span}
-use Rattle.pgr_blocks.specs.Linked.{HasEnd, ShareAnEnd, ShareAnEndBeside, LeadsOn, Joins}
+use Rattle.pgr_blocks.specs.Linked.{HasEnd, ShareAnEnd, ShareAnEndBeside, LeadsOn}
 use Rattle.pgr_blocks.specs.Block.{LinkedOutside, InOneBlock}
 use Rattle.pgr_blocks.specs.Bridge.{IsOtherSpan, IsBridge}
-use Rattle.pgr_blocks.proofs.Outside.{cases_id, cases_end, cases_span, leads_append, leads_weaker, leads_last, leads_back, outside_trans, outside_step, outside_sym, block_by_end, block_sym, outside_of}
+use Rattle.pgr_blocks.proofs.Outside.{cases_end, cases_span, leads_append, leads_weaker, leads_back, outside_trans, outside_step, block_by_end, block_sym, outside_of}
 
 module _ (spans : List Span) (s : Span) where
   -- a list of other spans that leads to g, from a span that is linked to s

@@ -1,14 +1,14 @@
 -- From the network of spans to their members, step by step.
-use Rattle.std.proofs.Common.{◌≡◌, ◌≢◌, ◌⊎◌, inl, inr, ⊎_elim, ℕ, zero, suc, ◌+◌, ◌<◌, ◌≤◌, ◌^◌, min, max, Bool, true, false, cond, eqb, List, [], ◌∷◌, length, get_or, map, Option, Some, None, unwrap_or, ℤ, ◌≤ℤ◌, refl, sym, subst, ◌∙◌, ap, arith, Less, IsSome}
-use Rattle.std.specs.List.{All, Contains, AllPairs, flat_map, count_by}
+use Rattle.std.proofs.Common.{◌≡◌, ℕ, zero, suc, ◌<◌, ◌≤◌, Bool, true, false, cond, eqb, List, [], ◌∷◌, length, get_or, map, Option, Some, None, unwrap_or, ℤ, ◌≤ℤ◌, refl, sym, subst, ◌∙◌, ap, arith, Less, IsSome}
+use Rattle.std.specs.List.{All, Contains, AllPairs, flat_map}
 use Rattle.std.specs.List.Sorted.{IsPermutation, IsSorted}
 use Rattle.std.specs.Ordering.{int_cmp}
 use Rattle.std.proofs.lemmas.Cmp.{int_ranked}
 use Rattle.std.proofs.lemmas.Int.{ints}
 use Rattle.std.proofs.lemmas.List.{get_or-map, length-map}
-use Rattle.std.proofs.lemmas.List.Elements.{Contains-get_or, All-contains}
+use Rattle.std.proofs.lemmas.List.Elements.{Contains-get_or}
 use Rattle.pgr_walks.specs.declared.link.LinkOf.{LinkOf}
-use Rattle.pgr_numbers.specs.Names.{AreNumbered, IsNumbered, id_at, named}
+use Rattle.pgr_numbers.specs.Names.{AreNumbered, named}
 use Rattle.pgr_blocks.specs.declared.span.Span.{Span}
 use Rattle.pgr_blocks.specs.declared.arrow.Arrow.{Arrow}
 use Rattle.pgr_blocks.specs.declared.segment.Segment.{Segment}
@@ -17,13 +17,13 @@ use Rattle.pgr_blocks.specs.declared.classed.Classed.{Classed}
 use Rattle.pgr_blocks.specs.declared.seen.Entry.{Entry}
 use Rattle.pgr_blocks.specs.declared.seen.Seen.{Seen}
 use Rattle.pgr_blocks.specs.Lists.{HaveRisingEdges, AreClasses, ArePoints, AreBridges, classed_cmp}
-use Rattle.pgr_blocks.specs.Exploring.{number_at, is_new, IsDepthFirst}
+use Rattle.pgr_blocks.specs.Exploring.{IsDepthFirst}
 use Rattle.pgr_blocks.specs.Network.{link_of, AreArrows}
 use Rattle.pgr_blocks.specs.Segment.{number_of, segment_by, IsSegmentBelow}
 use Rattle.pgr_blocks.specs.Seen.{AreSeen}
 use Rattle.pgr_blocks.specs.Member.{entry_of, member_seen, member_of, AreFound, classed_of, bridge_of, corners_of, ArePointsAt}
 use Rattle.pgr_blocks.proofs.Lists.{AllPairs-map, AllPairs-from_map, AllPairs-flat_map, Contains-from_flat_map}
-use Rattle.pgr_blocks.proofs.Numbering.{numbering, IsSegmentOf, is_forest, segment_of_span, span_of_segment}
+use Rattle.pgr_blocks.proofs.Numbering.{numbering, is_forest, segment_of_span, span_of_segment}
 use Rattle.pgr_blocks.proofs.Membership.{IsMemberOf, member_of_span, span_of_member}
 use Rattle.pgr_blocks.proofs.Answering.{are_classes, are_bridges, are_points}
 

@@ -1,5 +1,5 @@
 -- The ids of the places with values that differ, one place after another.
-use Rattle.std.proofs.Common.{◌≡◌, ◌⊎◌, inl, inr, ⊎_elim, ℕ, ◌+◌, ◌<◌, Bool, true, false, List, [], ◌∷◌, ◌++◌, length, get_or, Option, None, ℤ, pos, refl, sym, subst, ◌∙◌, ap, arith, ◌↔◌, Less}
+use Rattle.std.proofs.Common.{◌≡◌, ⊎_elim, ℕ, ◌+◌, ◌<◌, true, false, List, [], ◌∷◌, ◌++◌, length, get_or, Option, None, ℤ, pos, sym, subst, ◌∙◌, ap, arith, ◌↔◌, Less}
 use Rattle.std.specs.List.{Contains}
 use Rattle.std.specs.Ordering.{int_cmp}
 use Rattle.std.proofs.lemmas.Bool.{cases_eq}

@@ -1,5 +1,5 @@
 -- There are at most twice as many ends as spans.
-use Rattle.std.proofs.Common.{◌≡◌, ◌*◌, ◌≤◌, List, ◌++◌, length, map, sym, ap, subst, ⊎_elim, arith, ℤ}
+use Rattle.std.proofs.Common.{◌*◌, ◌≤◌, List, ◌++◌, length, map, sym, ap, subst, ⊎_elim, arith, ℤ}
 use Rattle.std.specs.List.{Contains}
 use Rattle.std.specs.Cmp.{signed_Decides}
 use Rattle.std.specs.Ordering.{int_eq, is_eq}

@@ -1,10 +1,10 @@
 -- Small cases of blocks, articulation points and bridges, computed over the definitions.
-use Rattle.std.proofs.Common.{◌≡◌, ◌≢◌, ◌⊎◌, inl, inr, ⊎_elim, ℕ, zero, suc, ◌<◌, ℤ, pos, ◌≤ℤ◌, List, [], ◌∷◌, refl, sym, subst, ◌∙◌, ap, arith}
+use Rattle.std.proofs.Common.{◌≡◌, ◌≢◌, ◌⊎◌, inl, inr, ⊎_elim, ℕ, zero, suc, ◌<◌, ℤ, pos, List, [], ◌∷◌, refl, sym, subst, ◌∙◌, ap, arith}
 use Rattle.std.specs.List.{Contains}
 use Rattle.std.proofs.lemmas.Int.{ints}
 use Rattle.pgr_blocks.specs.declared.span.Span.{Span}
-use Rattle.pgr_blocks.specs.Linked.{HasEnd, ShareAnEnd, ShareAnEndBeside, LeadsOn, Joins}
-use Rattle.pgr_blocks.specs.Block.{LinkedOutside, InOneBlock, IsBlockName}
+use Rattle.pgr_blocks.specs.Linked.{HasEnd, ShareAnEndBeside, LeadsOn}
+use Rattle.pgr_blocks.specs.Block.{InOneBlock, IsBlockName}
 use Rattle.pgr_blocks.specs.ArticulationPoint.{IsArticulationPoint}
 use Rattle.pgr_blocks.specs.Bridge.{IsBridge}
 use Rattle.pgr_blocks.proofs.Outside.{cases_id}

@@ -1,6 +1,6 @@
 -- A search into the depth keeps what holds of it, at a lead to a vertex that has a number and at one to a new vertex.
-use Rattle.std.proofs.Common.{◌≡◌, ◌≢◌, ◌⊎◌, inl, inr, ⊎_elim, ℕ, zero, suc, ◌+◌, ◌*◌, ◌-◌, ◌<◌, ◌≤◌, Bool, true, false, cond, List, [], ◌∷◌, ◌++◌, length, get_or, set, map, replicate, Option, Some, None, refl, sym, subst, ◌∙◌, ap, arith, eqb}
-use Rattle.std.specs.List.{Contains, AllPairs, filter, All, count_by, sum_by}
+use Rattle.std.proofs.Common.{◌≡◌, ◌⊎◌, inl, inr, ⊎_elim, ℕ, zero, suc, ◌+◌, ◌*◌, ◌<◌, ◌≤◌, true, false, cond, List, [], ◌∷◌, ◌++◌, length, get_or, set, map, replicate, Option, Some, None, refl, sym, subst, ◌∙◌, ap, arith, eqb}
+use Rattle.std.specs.List.{Contains, AllPairs, All, count_by}
 use Rattle.std.proofs.lemmas.Bool.{cases_eq, cases_lt, eqb-true, eq-eqb}
 use Rattle.std.proofs.lemmas.List.{get_or-set_same, get_or-set_other, get_or_append_left, get_or_past, length-append, length-set, length_push, length-map, get_or_push, get_or_default, length-replicate, get_or-replicate}
 use Rattle.std.proofs.lemmas.List.Elements.{Contains-push, Contains-push_cases, Contains-append_left, Contains-append_right, Contains-append_cases, All-contains, Contains-get_or}
@@ -10,7 +10,7 @@ use Rattle.std.specs.Option.{is_some}
 use Rattle.std.proofs.lemmas.Option.{same_Some}
 use Rattle.pgr_blocks.specs.declared.arrow.Arrow.{Arrow}
 use Rattle.pgr_blocks.specs.declared.search.Lead.{Lead}
-use Rattle.pgr_blocks.specs.Forest.{parent_of, Climbs, IsAncestor, ParentsFall}
+use Rattle.pgr_blocks.specs.Forest.{parent_of, Climbs, IsAncestor}
 use Rattle.pgr_blocks.specs.Exploring.{number_at, AreRelated, IsUnder, AreLinked, IsLead, is_new, IsNumbering, IsExploring, IsDepthFirst, arrows_from, lead_along, HasPlacesBelow, left_to_do}
 use Rattle.pgr_blocks.proofs.Ancestors.{ancestor_itself, ancestor_above}
 use Rattle.pgr_blocks.proofs.Lists.{AllPairs-front, AllPairs-last, AllPairs-append, Contains-filter, Contains-from_filter, Contains-map, Contains-from_map}

@@ -1,24 +1,22 @@
 -- What was found under the tops of far ends is the name of a block, and whether a span is alone in it.
-use Rattle.std.proofs.Common.{◌≡◌, ◌≢◌, ◌⊎◌, inl, inr, ⊎_elim, ℕ, zero, suc, ◌<◌, ◌≤◌, min, max, Bool, true, false, cond, eqb, List, [], ◌∷◌, ◌++◌, length, get_or, map, Option, Some, None, ℤ, ◌≤ℤ◌, refl, sym, subst, ◌∙◌, ap, arith, Less, Equal}
+use Rattle.std.proofs.Common.{◌≡◌, ◌≢◌, ◌⊎◌, inl, inr, ⊎_elim, ℕ, zero, suc, ◌<◌, ◌≤◌, Bool, true, false, cond, eqb, List, [], ◌∷◌, length, get_or, Option, Some, None, ℤ, ◌≤ℤ◌, refl, sym, subst, ◌∙◌, ap, arith, Less, Equal}
 use Rattle.std.specs.Bool.{MatchBool}
 use Rattle.std.specs.List.{Contains, AllPairs, flat_map}
 use Rattle.std.specs.Ordering.{int_cmp}
-use Rattle.std.proofs.lemmas.Bool.{cases_eq, cases_lt, cases_Bool, eqb-true, eqb-false, ne_eqb, eq-eqb}
+use Rattle.std.proofs.lemmas.Bool.{cases_lt, eqb-false, ne_eqb, eq-eqb}
 use Rattle.std.proofs.lemmas.List.{get_or_default}
 use Rattle.std.proofs.lemmas.Int.{ints}
 use Rattle.std.proofs.lemmas.Cmp.{int_cmp_total, tied_itself}
-use Rattle.pgr_outside.specs.Lists.{IsStrictlyRising}
 use Rattle.pgr_numbers.specs.Names.{id_at}
 use Rattle.pgr_blocks.specs.declared.span.Span.{Span}
 use Rattle.pgr_blocks.specs.declared.segment.Segment.{Segment}
 use Rattle.pgr_blocks.specs.declared.member.Member.{Member}
 use Rattle.pgr_blocks.specs.declared.seen.Entry.{Entry}
 use Rattle.pgr_blocks.specs.declared.seen.Seen.{Seen}
-use Rattle.pgr_blocks.specs.Linked.{HasEnd}
 use Rattle.pgr_blocks.specs.Block.{InOneBlock, IsBlockName}
 use Rattle.pgr_blocks.specs.Lists.{HaveRisingEdges}
-use Rattle.pgr_blocks.specs.Forest.{parent_of, IsAncestor, IsForest, rung_of, IsTop}
-use Rattle.pgr_blocks.specs.Seen.{IsUnderKey, IsSeen, IsKnown}
+use Rattle.pgr_blocks.specs.Forest.{IsAncestor, IsForest, rung_of}
+use Rattle.pgr_blocks.specs.Seen.{IsUnderKey, IsKnown}
 use Rattle.pgr_blocks.specs.Member.{entry_of, member_of, member_seen, AreFound}
 use Rattle.pgr_blocks.proofs.Outside.{cases_id, block_sym, block_trans, loop_alone}
 use Rattle.pgr_blocks.proofs.SameBlock.{block_by_top, top_by_block}

@@ -1,6 +1,6 @@
 -- The spans over the numbers that a search into the depth gave: a forest of which each span is near.
-use Rattle.std.proofs.Common.{◌≡◌, ◌≢◌, ◌⊎◌, inl, inr, ⊎_elim, ℕ, zero, suc, ◌+◌, ◌<◌, ◌≤◌, min, max, Bool, true, false, cond, List, [], ◌∷◌, length, get_or, map, Option, Some, None, unwrap_or, ℤ, pos, refl, sym, subst, ◌∙◌, ap, arith, Less, Equal}
-use Rattle.std.specs.List.{Contains, All}
+use Rattle.std.proofs.Common.{◌≡◌, ◌⊎◌, inl, inr, ⊎_elim, ℕ, zero, suc, ◌<◌, ◌≤◌, min, max, Bool, true, false, cond, List, [], ◌∷◌, length, get_or, map, Option, Some, unwrap_or, ℤ, pos, refl, sym, subst, ◌∙◌, ap, arith, Less, Equal}
+use Rattle.std.specs.List.{Contains}
 use Rattle.std.specs.Ordering.{int_eq, int_cmp}
 use Rattle.std.specs.Cmp.{signed_Decides}
 use Rattle.std.proofs.lemmas.Bool.{cases_lt, both_ways}
@@ -13,7 +13,7 @@ use Rattle.pgr_blocks.specs.declared.span.Span.{Span}
 use Rattle.pgr_blocks.specs.declared.arrow.Arrow.{Arrow}
 use Rattle.pgr_blocks.specs.declared.segment.Segment.{Segment}
 use Rattle.pgr_blocks.specs.Linked.{HasEnd, IsEndOf}
-use Rattle.pgr_blocks.specs.Forest.{parent_of, IsAncestor, IsForest, Rung, rung_of}
+use Rattle.pgr_blocks.specs.Forest.{IsAncestor, IsForest, Rung, rung_of}
 use Rattle.pgr_blocks.specs.Exploring.{number_at, AreRelated, AreLinked, IsDepthFirst}
 use Rattle.pgr_blocks.specs.Network.{link_of, AreArrows}
 use Rattle.pgr_blocks.specs.Segment.{number_of, segment_by}

@@ -5,7 +5,7 @@ use Rattle.std.specs.Cmp.{signed_Decides}
 use Rattle.std.specs.Ordering.{int_eq}
 use Rattle.std.proofs.lemmas.Bool.{cases_Bool, both_ways}
 use Rattle.pgr_blocks.specs.declared.span.Span.{Span}
-use Rattle.pgr_blocks.specs.Linked.{HasEnd, ShareAnEnd, ShareAnEndBeside, LeadsOn}
+use Rattle.pgr_blocks.specs.Linked.{HasEnd, ShareAnEndBeside, LeadsOn}
 use Rattle.pgr_blocks.specs.Block.{LinkedOutside, InOneBlock}
 
 -- two ids are equal or not

@@ -1,13 +1,13 @@
 -- Which spans are in one block, by low points: a span is in the block of the tree span of its top.
-use Rattle.std.proofs.Common.{◌≡◌, ◌≢◌, ◌⊎◌, inl, inr, ⊎_elim, ℕ, zero, suc, ◌+◌, ◌<◌, ◌≤◌, min, max, List, [], ◌∷◌, length, get_or, Option, Some, None, ℤ, refl, sym, subst, ◌∙◌, ap, arith}
+use Rattle.std.proofs.Common.{◌≡◌, ◌≢◌, ◌⊎◌, inl, inr, ⊎_elim, ℕ, zero, suc, ◌<◌, ◌≤◌, List, [], ◌∷◌, length, get_or, Option, Some, ℤ, refl, sym, subst, ◌∙◌, ap, arith}
 use Rattle.std.specs.List.{Contains}
-use Rattle.std.proofs.lemmas.Bool.{cases_eq, cases_lt}
+use Rattle.std.proofs.lemmas.Bool.{cases_lt}
 use Rattle.std.proofs.lemmas.Option.{same_Some}
 use Rattle.pgr_blocks.specs.declared.span.Span.{Span}
-use Rattle.pgr_blocks.specs.Linked.{HasEnd, IsEndOf, ShareAnEndBeside, LeadsOn}
+use Rattle.pgr_blocks.specs.Linked.{HasEnd, ShareAnEndBeside, LeadsOn}
 use Rattle.pgr_blocks.specs.Block.{LinkedOutside, InOneBlock}
-use Rattle.pgr_blocks.specs.Forest.{parent_of, Climbs, IsAncestor, ParentsFall, IsForest, IsTop, rung_of}
-use Rattle.pgr_blocks.proofs.Outside.{outside_trans, outside_sym, outside_step, block_by_end, block_sym, block_trans}
+use Rattle.pgr_blocks.specs.Forest.{parent_of, Climbs, IsAncestor, IsForest, IsTop, rung_of}
+use Rattle.pgr_blocks.proofs.Outside.{outside_trans, outside_step, block_by_end, block_sym, block_trans}
 use Rattle.pgr_blocks.proofs.Ancestors.{ancestor_itself, ancestor_above, ancestor_trans, ancestor_of_parent, ancestor_le, ancestor_order}
 
 -- the ends of a span have its two numbers

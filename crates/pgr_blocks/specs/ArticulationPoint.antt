@@ -1,5 +1,5 @@
 -- Articulation points: vertices without which two others are no longer joined.
-use Rattle.std.specs.Prelude.{◌≡◌, ◌≢◌, List, ℤ, Contains}
+use Rattle.std.specs.Prelude.{◌≢◌, List, ℤ, Contains}
 use Rattle.pgr_blocks.specs.declared.span.Span.{Span}
 use Rattle.pgr_blocks.specs.Linked.{HasEnd, Joins}
 

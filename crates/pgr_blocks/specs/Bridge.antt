@@ -1,5 +1,5 @@
 -- Bridges: spans without which their ends are no longer joined.
-use Rattle.std.specs.Prelude.{◌≡◌, ◌≢◌, List, ℤ, Contains}
+use Rattle.std.specs.Prelude.{◌≢◌, List, Contains}
 use Rattle.pgr_blocks.specs.declared.span.Span.{Span}
 use Rattle.pgr_blocks.specs.Linked.{Joins}
 

@@ -1,5 +1,5 @@
 -- A search that goes into the depth: what holds while it numbers vertices as it comes to them, and what it ends with.
-use Rattle.std.specs.Prelude.{◌≡◌, ◌⊎◌, ℕ, ◌+◌, ◌*◌, ◌<◌, List, length, Option, Some, None, Contains, slice_index_or, count_by, map, filter, ◌==◌, Bool, true, false}
+use Rattle.std.specs.Prelude.{◌≡◌, ◌⊎◌, ℕ, ◌+◌, ◌*◌, ◌<◌, List, length, Option, Some, None, Contains, slice_index_or, count_by, filter, ◌==◌, Bool, true, false}
 use Rattle.std.specs.List.{AllPairs}
 use Rattle.pgr_blocks.specs.declared.arrow.Arrow.{Arrow}
 use Rattle.pgr_blocks.specs.declared.search.Lead.{Lead}

@@ -1,5 +1,5 @@
 -- A forest of numbered vertices by the parent of each, and spans that join vertices of which one is an ancestor of the other.
-use Rattle.std.specs.Prelude.{◌≡◌, ◌≢◌, ℕ, zero, suc, ◌<◌, ◌≤◌, ◌⊎◌, min, max, List, length, Option, Some, None, ℤ, Contains, slice_index_or}
+use Rattle.std.specs.Prelude.{◌≡◌, ℕ, zero, suc, ◌<◌, ◌≤◌, ◌⊎◌, min, max, List, length, Option, Some, None, ℤ, Contains, slice_index_or}
 use Rattle.pgr_blocks.specs.declared.span.Span.{Span}
 use Rattle.pgr_blocks.specs.declared.segment.Segment.{Segment}
 use Rattle.pgr_blocks.specs.Linked.{IsEndOf}

@@ -1,5 +1,5 @@
 -- What the three lists of some spans hold: each span with its block, the articulation points, the bridges.
-use Rattle.std.specs.Prelude.{◌≡◌, ◌↔◌, List, ℤ, Contains, map}
+use Rattle.std.specs.Prelude.{◌≡◌, ◌↔◌, List, ℤ, Contains}
 use Rattle.std.specs.declared.cmp.Ordering.{Ordering}
 use Rattle.std.specs.Ordering.{int_cmp, ordering_then}
 use Rattle.pgr_outside.specs.Lists.{IsStrictlyRising}

@@ -1,5 +1,5 @@
 -- Spans with their blocks, as they are found by the tops of their far ends.
-use Rattle.std.specs.Prelude.{◌≡◌, ◌↔◌, ℕ, ◌<◌, List, [], ◌∷◌, length, map, Option, Some, None, Bool, true, false, not, ◌&&◌, ◌==◌, if◌then◌else◌, Contains, slice_index, slice_index_or, ℤ}
+use Rattle.std.specs.Prelude.{◌≡◌, ◌↔◌, ℕ, ◌<◌, List, [], ◌∷◌, length, map, Option, Some, None, true, not, ◌&&◌, ◌==◌, if◌then◌else◌, Contains, slice_index, slice_index_or, ℤ}
 use Rattle.std.specs.List.{flat_map}
 use Rattle.std.specs.Ordering.{int_cmp}
 use Rattle.pgr_outside.specs.Lists.{IsStrictlyRising}

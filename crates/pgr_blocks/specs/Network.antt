@@ -1,5 +1,5 @@
 -- Spans by the places of their ends: links, and arrows both ways.
-use Rattle.std.specs.Prelude.{◌≡◌, ◌⊎◌, ℕ, ◌<◌, List, [], ◌∷◌, All, Contains, ℤ}
+use Rattle.std.specs.Prelude.{◌≡◌, ◌⊎◌, ℕ, List, [], ◌∷◌, All, Contains, ℤ}
 use Rattle.std.specs.List.Sorted.{IsNonDecreasingBy}
 use Rattle.pgr_walks.specs.declared.link.LinkOf.{LinkOf}
 use Rattle.pgr_blocks.specs.declared.span.Span.{Span}

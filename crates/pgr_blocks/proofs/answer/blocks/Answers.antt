@@ -1,5 +1,5 @@
 -- From the network to the three lists, step by step.
-use Rattle.std.proofs.Common.{◌≡◌, ◌<◌, ℕ, length, get_or, map, None, sym, subst, ap, ◌∙◌, IsSome}
+use Rattle.std.proofs.Common.{◌<◌, ℕ, length, get_or, map, None, sym, subst, ap, ◌∙◌, IsSome}
 use Rattle.std.specs.List.{All, flat_map}
 use Rattle.std.specs.List.Sorted.{IsPermutation}
 use Rattle.pgr_blocks.specs.Network.{AreBothWays}

@@ -1,5 +1,5 @@
 -- A segment lowers its far end to its near end.
-use Rattle.std.proofs.Common.{◌≡◌, ℕ, ◌<◌, sym, subst, get_or, length, take, pos, ◌+◌, arith}
+use Rattle.std.proofs.Common.{◌≡◌, ◌<◌, sym, subst, get_or, length, take, pos, ◌+◌, arith}
 use Rattle.std.proofs.lemmas.List.{take_all}
 use Rattle.std.proofs.lemmas.List.Elements.{Contains-get_or}
 use Rattle.pgr_blocks.specs.declared.segment.Segment.{Segment}

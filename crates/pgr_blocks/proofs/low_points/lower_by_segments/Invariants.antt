@@ -1,4 +1,4 @@
-use Rattle.std.proofs.Common.{◌≡◌, ℕ, ◌<◌, ◌≤◌, List, Option, length, get_or, take}
+use Rattle.std.proofs.Common.{◌≡◌, ℕ, List, Option, length, take}
 use Rattle.pgr_blocks.specs.Forest.{AreReached}
 use Rattle.pgr_blocks.specs.Segment.{ReachesNear}
 use Rattle.pgr_blocks.proofs.low_points.lower_by_segments.Given as goal

@@ -1,5 +1,5 @@
 -- The keys of the entries are tops, which are no greater than the far ends.
-use Rattle.std.proofs.Common.{◌≡◌, subst, ◌∙◌, ap, rules}
+use Rattle.std.proofs.Common.{◌∙◌, ap}
 use Rattle.std.specs.List.{flat_map}
 use Rattle.pgr_blocks.specs.Member.{entry_of}
 use Rattle.pgr_blocks.proofs.TopSteps.{keys_below}

@@ -1,5 +1,5 @@
 -- Sorted by where they lead from, they are the arrows of the links.
-use Rattle.std.proofs.Common.{◌≡◌, ℕ, rules}
+use Rattle.std.proofs.Common.{rules}
 use Rattle.std.proofs.lemmas.List.Sorted.{IsNonDecreasingBy-from_sort_by_key}
 use Rattle.pgr_blocks.specs.declared.arrow.Arrow.{Arrow}
 use Rattle.pgr_blocks.proofs.Arrows.{are_arrows}

@@ -1,5 +1,5 @@
 -- A place with values that differ adds its id, and others add nothing.
-use Rattle.std.proofs.Common.{◌≡◌, ◌+◌, ◌<◌, ◌≤◌, ◌++◌, ◌∷◌, [], length, sym, subst, ◌∙◌, ap, rules, arith, true, false}
+use Rattle.std.proofs.Common.{◌≡◌, ◌+◌, ◌<◌, ◌++◌, ◌∷◌, [], length, sym, subst, ◌∙◌, ap, rules, arith}
 use Rattle.pgr_blocks.proofs.Corners.{ArePointsUpTo, points_push, points_skip, points_all}
 use Rattle.pgr_numbers.specs.Names.{id_at}
 use Rattle.pgr_blocks.proofs.results.points_of.Goals as goal

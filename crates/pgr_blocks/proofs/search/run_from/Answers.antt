@@ -1,5 +1,5 @@
 -- The arrows between the two places of the search are those from this vertex.
-use Rattle.std.proofs.Common.{◌≡◌, ◌≤◌, ℕ, List, length, take, drop, true, false, ltb, leb, ap, ◌∙◌, subst, rules}
+use Rattle.std.proofs.Common.{◌≡◌, ◌≤◌, List, length, take, drop, true, false, ltb, leb, ap, ◌∙◌, subst, rules}
 use Rattle.std.specs.List.Sorted.{IsPartitionPoint, IsNonDecreasingBy}
 use Rattle.std.proofs.lemmas.List.Sorted.{IsPartitionPoint-from_clause, IsPartitionedBy-ltb, IsPartitionedBy-leb, IsNonDecreasingBy-drop}
 use Rattle.pgr_blocks.specs.declared.arrow.Arrow.{Arrow}

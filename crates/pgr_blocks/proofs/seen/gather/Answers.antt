@@ -1,6 +1,5 @@
 -- One more entry is noted.
-use Rattle.std.proofs.Common.{◌≡◌, ◌<◌, ◌+◌, length, take, get_or, sym, subst, ◌∙◌, pos, arith}
-use Rattle.std.proofs.lemmas.List.{take_more}
+use Rattle.std.proofs.Common.{◌<◌, ◌+◌, length, take, sym, subst, pos}
 use Rattle.pgr_blocks.specs.declared.seen.Entry.{Entry}
 use Rattle.pgr_blocks.specs.Seen.{AreSeen}
 use Rattle.pgr_blocks.proofs.Lists.{written}

@@ -1,5 +1,5 @@
 -- The edges are written in order, and the ends are few since the spans are.
-use Rattle.std.proofs.Common.{◌≡◌, ℕ, pos, List, [], ◌∷◌, refl, lit<}
+use Rattle.std.proofs.Common.{ℕ, pos, List, [], ◌∷◌, refl, lit<}
 use Rattle.pgr_blocks.specs.declared.span.Span.{Span}
 use Rattle.pgr_blocks.proofs.TestCases.{rising}
 use Rattle.pgr_blocks.proofs.tests.a_triangle_a_bridge_a_loop_and_a_parallel_pair.Goals as goal

@@ -1,5 +1,5 @@
 -- The ends of the links are the ends of the spans, and all of them are named.
-use Rattle.std.proofs.Common.{◌≡◌, sym, subst, ◌∙◌}
+use Rattle.std.proofs.Common.{sym, subst, ◌∙◌}
 use Rattle.std.specs.List.{All}
 use Rattle.pgr_numbers.specs.Names.{AreEnds, IsNamed}
 use Rattle.pgr_blocks.proofs.Arrows.{ends_of_spans}

@@ -1,6 +1,6 @@
 -- A lead to a vertex that has a number is done with; a new vertex is entered.
-use Rattle.std.proofs.Common.{◌≡◌, ◌<◌, ◌++◌, ◌∷◌, [], length, map, set, Some, None, sym, subst, ◌∙◌, arith}
-use Rattle.pgr_blocks.specs.Exploring.{number_at, IsExploring, arrows_from, lead_along, left_to_do}
+use Rattle.std.proofs.Common.{◌<◌, ◌++◌, ◌∷◌, [], length, map, sym, subst, arith}
+use Rattle.pgr_blocks.specs.Exploring.{IsExploring, arrows_from, lead_along, left_to_do}
 use Rattle.pgr_blocks.proofs.Exploring.{lead_inside, none_at, some_at, known_keeps, new_keeps, enter_nearer}
 use Rattle.pgr_blocks.proofs.search.Search.follow.Goals as goal
 
