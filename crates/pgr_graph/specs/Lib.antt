@@ -8,3 +8,7 @@ pub use Rattle.pgr_walks.specs.Graph
 pub use Rattle.pgr_walks.specs.Visit
 pub use Rattle.pgr_walks.specs.Loopless
 pub use Rattle.pgr_walks.specs.RouteOrders
+pub use Rattle.pgr_walks.specs.LinksOf
+pub use Rattle.pgr_walks.specs.Reversed
+pub use Rattle.pgr_walks.specs.Without
+pub use Rattle.pgr_walks.specs.Reaches

@@ -12,7 +12,8 @@ mod links;
 pub use laws::links_fit;
 pub use links::{Direction, links_of};
 pub use pgr_walks::{
-    Graph, Label, Link, LinkOf, LinkVisitor, ListGraph, NamedLink, Next,
+    Adjacency, Graph, Label, Link, LinkOf, LinkVisitor, ListGraph, NamedLink, Next, Reversed,
+    RowGraph, Without, append_heads, append_tails, backward_walks_cost_the_same,
     closed_sets_have_a_least_walk, every_walk_can_be_loopless, least_labels_are_small,
     loopless_walks_are_short, one_walk_between_ends_is_least, one_walk_of_a_set_is_least,
     one_walk_precedes_another, one_walk_to_targets_is_least, show, small_costs_fit,
