@@ -63,12 +63,16 @@ same_edge c d = int_eq c.edge d.edge
 same_class : (c d : Classed) → c.component ≡ d.component → c.edge ≡ d.edge → c ≡ d
 same_class c d component edge = ap (λ x. record c { component = x }) component ∙ ap (λ x. record d { edge = x }) edge
 
-module _ (spans : List Span) (rise : HaveRisingEdges spans) (names : List ℤ) (names_rise : IsStrictlyRising int_cmp names) (members : List Member) (members_rise : AllPairs (λ m n. int_cmp m.edge n.edge ≡ Less) members) (of_span : (s : Span) → Contains spans s → (member : Member) × Contains members member × IsMemberOf spans names s member) (of_member : (member : Member) → Contains members member → (s : Span) × Contains spans s × IsMemberOf spans names s member) where
+module _ (spans : List Span) (rise : HaveRisingEdges spans) (names : List ℤ) (names_rise : IsStrictlyRising int_cmp names) (members : List Member)
+    (members_rise : AllPairs (λ m n. int_cmp m.edge n.edge ≡ Less) members)
+    (of_span : (s : Span) → Contains spans s → (member : Member) × Contains members member × IsMemberOf spans names s member)
+    (of_member : (member : Member) → Contains members member → (s : Span) × Contains spans s × IsMemberOf spans names s member) where
   -- sorted, the classes rise
   classes_rise : (classes : List Classed) → IsPermutation (map classed_of members) classes → IsSorted classed_cmp classes → IsStrictlyRising classed_cmp classes
   classes_rise classes moved sorted i j d before inside =
       let in_turn = AllPairs-map (λ c e. int_cmp c.edge e.edge ≡ Less) classed_of members members_rise in
-      let apart : IsDistinct same_edge (map classed_of members) = IsDistinct-from_apart same_edge (map classed_of members) (λ m n x m_before n_inside. ap is_eq (in_turn m n x m_before n_inside)) in
+      let apart : IsDistinct same_edge (map classed_of members) = IsDistinct-from_apart same_edge (map classed_of members)
+      (λ m n x m_before n_inside. ap is_eq (in_turn m n x m_before n_inside)) in
       let distinct : IsDistinct same_edge classes = IsDistinct-IsPermutation same_edge (λ c e. int_eq_equiv.symm c.edge e.edge) (map classed_of members) classes moved apart in
       let differ = apart_from_distinct same_edge classes i j d distinct before inside in
       less_by_rest (classed_cmp (get_or classes i d) (get_or classes j d)) (classed_cmp (get_or classes j d) (get_or classes i d))
@@ -84,7 +88,8 @@ module _ (spans : List Span) (rise : HaveRisingEdges spans) (names : List ℤ) (
     rise = classes_rise classes moved sorted;
     each = λ c. (
       (λ has.
-          let (m, m_has, is) = Contains-from_map classed_of members c (Contains-permutation classes (map classed_of members) c (IsPermutation-sym (map classed_of members) classes moved) has) in
+          let (m, m_has, is) = Contains-from_map classed_of members c
+          (Contains-permutation classes (map classed_of members) c (IsPermutation-sym (map classed_of members) classes moved) has) in
           let (s, s_has, s_is) = of_member m m_has in
           (s, s_has, ap (λ x. x.edge) is ∙ s_is.edge, subst (IsBlockName spans s) (sym (ap (λ x. x.component) is)) s_is.name)),
       (λ (s, s_has, edge, name).
@@ -127,13 +132,15 @@ module _ (spans : List Span) (rise : HaveRisingEdges spans) (names : List ℤ) (
 
   alone_bridge : (s : Span) (m : Member) → Contains spans s → IsMemberOf spans names s m → m.alone ≡ true → m.from ≢ m.to → IsBridge spans s
   alone_bridge s m has is alone differ = by m.alone alone is.alone where
-    by : (b : Bool) → b ≡ true → MatchBool b ((other : Span) → Contains spans other → other ≢ s → InOneBlock spans s other → ⊥) ((other : Span) × Contains spans other × (other ≢ s) × InOneBlock spans s other) → IsBridge spans s
+    by : (b : Bool) → b ≡ true → MatchBool b ((other : Span) → Contains spans other → other ≢ s → InOneBlock spans s other → ⊥)
+        ((other : Span) × Contains spans other × (other ≢ s) × InOneBlock spans s other) → IsBridge spans s
     by true e none = bridge_alone spans s has (places_differ s m is differ) none
     by false e found = absurd (false≢true e)
 
   bridge_is_alone : (s : Span) (m : Member) → IsMemberOf spans names s m → IsBridge spans s → m.alone ≡ true
   bridge_is_alone s m is bridge = by m.alone is.alone where
-    by : (b : Bool) → MatchBool b ((other : Span) → Contains spans other → other ≢ s → InOneBlock spans s other → ⊥) ((other : Span) × Contains spans other × (other ≢ s) × InOneBlock spans s other) → b ≡ true
+    by : (b : Bool) → MatchBool b ((other : Span) → Contains spans other → other ≢ s → InOneBlock spans s other → ⊥)
+        ((other : Span) × Contains spans other × (other ≢ s) × InOneBlock spans s other) → b ≡ true
     by true none = refl
     by false (other, has, differs, block) = absurd (no_bridge spans s other differs block bridge)
 
@@ -150,7 +157,8 @@ module _ (spans : List Span) (rise : HaveRisingEdges spans) (names : List ℤ) (
           (s, s_has, sym is.edge ∙ is_edge, alone_bridge s m s_has is alone differ)),
       (λ (s, s_has, is_edge, bridge).
           let (m, m_has, is) = of_span s s_has in
-          Contains-flat_map bridge_of members m edge m_has (subst (Contains (bridge_of m)) (is.edge ∙ is_edge) (bridge_from m (bridge_is_alone s m is bridge) (ends_differ s m is bridge.0)))),
+          Contains-flat_map bridge_of members m edge m_has (subst (Contains (bridge_of m)) (is.edge ∙ is_edge)
+          (bridge_from m (bridge_is_alone s m is bridge) (ends_differ s m is bridge.0)))),
     );
   }
 
@@ -168,7 +176,9 @@ module _ (spans : List Span) (rise : HaveRisingEdges spans) (names : List ℤ) (
       let (m, m_has, among) = Contains-from_flat_map corners_of members entry there in
       let (s, s_has, is) = of_member m m_has in
       by m s s_has is (eqb m.from m.to) refl among where
-        by : (m : Member) (s : Span) → Contains spans s → IsMemberOf spans names s m → (b : Bool) → eqb m.from m.to ≡ b → Contains {X = Entry} (cond b [] (record { key = m.from; value = m.component } ∷ record { key = m.to; value = m.component } ∷ [])) (record { key = v; value = value }) → Meets v value
+        by : (m : Member) (s : Span) → Contains spans s → IsMemberOf spans names s m → (b : Bool) → eqb m.from m.to ≡ b
+            → Contains {X = Entry} (cond b [] (record { key = m.from; value = m.component } ∷ record { key = m.to; value = m.component } ∷ [])) (record { key = v; value = value })
+            → Meets v value
         by m s s_has is true e (k, inside, at) = absurd (omega arith)
         by m s s_has is false e (zero, inside, at) = record {
           span = s;
@@ -187,14 +197,27 @@ module _ (spans : List Span) (rise : HaveRisingEdges spans) (names : List ℤ) (
         by m s s_has is false e (suc (suc k), inside, at) = absurd (omega arith)
 
   -- the component of a span that is no loop stands under the place of each of its ends
-  corner_at : (s : Span) (m : Member) (x : ℤ) → Contains members m → IsMemberOf spans names s m → s.a ≢ s.b → HasEnd s x → (v : ℕ) × (v < length names) × (id_at names v ≡ x) × IsUnderKey (flat_map corners_of members) v m.component
+  corner_at : (s : Span) (m : Member) (x : ℤ) → Contains members m → IsMemberOf spans names s m → s.a ≢ s.b → HasEnd s x
+      → (v : ℕ) × (v < length names) × (id_at names v ≡ x) × IsUnderKey (flat_map corners_of members) v m.component
   corner_at s m x has is differ end =
       let apart = ne_eqb m.from m.to (ends_differ s m is differ) in
       let first : Entry = record { key = m.from; value = m.component } in
       let second : Entry = record { key = m.to; value = m.component } in
       ⊎_elim
-      (λ at. (m.from, is.from_below, is.from ∙ sym at, Contains-flat_map corners_of members m first has (subst (λ b. Contains (cond b [] (first ∷ second ∷ [])) first) (sym apart) (0, omega arith, refl))))
-      (λ at. (m.to, is.to_below, is.to ∙ sym at, Contains-flat_map corners_of members m second has (subst (λ b. Contains (cond b [] (first ∷ second ∷ [])) second) (sym apart) (1, omega arith, refl))))
+      (λ at. (
+        m.from,
+        is.from_below,
+        is.from ∙ sym at,
+        Contains-flat_map corners_of members m first has
+            (subst (λ b. Contains (cond b [] (first ∷ second ∷ [])) first) (sym apart) (0, omega arith, refl)),
+      ))
+      (λ at. (
+        m.to,
+        is.to_below,
+        is.to ∙ sym at,
+        Contains-flat_map corners_of members m second has
+            (subst (λ b. Contains (cond b [] (first ∷ second ∷ [])) second) (sym apart) (1, omega arith, refl)),
+      ))
       end
 
   module _ (found : List (Option Seen)) (seen : AreSeen (length names) (flat_map corners_of members) found) (points : List ℤ) (at_places : ArePointsAt names found points) where
@@ -202,7 +225,8 @@ module _ (spans : List Span) (rise : HaveRisingEdges spans) (names : List ℤ) (
     parts_point : (v : ℕ) (x : ℤ) → id_at names v ≡ x → (known : Option Seen) → IsKnown (flat_map corners_of members) v known → parts known ≡ true → IsArticulationPoint spans x
     parts_point v x id None none parted = absurd (false≢true parted)
     parts_point v x id (Some one) known parted = by one.same parted known.others where
-      by : (b : Bool) → not b ≡ true → MatchBool b ((value : ℤ) → IsUnderKey (flat_map corners_of members) v value → value ≡ one.first) ((value : ℤ) × IsUnderKey (flat_map corners_of members) v value × (value ≢ one.first)) → IsArticulationPoint spans x
+      by : (b : Bool) → not b ≡ true → MatchBool b ((value : ℤ) → IsUnderKey (flat_map corners_of members) v value → value ≡ one.first)
+          ((value : ℤ) × IsUnderKey (flat_map corners_of members) v value × (value ≢ one.first)) → IsArticulationPoint spans x
       by true e all = absurd (false≢true e)
       by false e (value, there, differs) =
           let s = meets v one.first known.first in
@@ -211,23 +235,28 @@ module _ (spans : List Span) (rise : HaveRisingEdges spans) (names : List ℤ) (
           (λ block. differs (sym (name_by_block spans rise s.span t.span one.first value s.has t.has s.name t.name block)))
 
     -- where the id of a place is no point, the components there are the same
-    one_component : (v : ℕ) (p q : ℤ) → parts (get_or found v None) ≡ false → (known : Option Seen) → get_or found v None ≡ known → IsKnown (flat_map corners_of members) v known → IsUnderKey (flat_map corners_of members) v p → IsUnderKey (flat_map corners_of members) v q → p ≡ q
+    one_component : (v : ℕ) (p q : ℤ) → parts (get_or found v None) ≡ false → (known : Option Seen) → get_or found v None ≡ known → IsKnown (flat_map corners_of members) v known
+        → IsUnderKey (flat_map corners_of members) v p → IsUnderKey (flat_map corners_of members) v q → p ≡ q
     one_component v p q whole None is none p_there q_there = absurd (none p p_there)
     one_component v p q whole (Some one) is known p_there q_there = by one.same (ap parts (sym is) ∙ whole) known.others where
-      by : (b : Bool) → not b ≡ false → MatchBool b ((value : ℤ) → IsUnderKey (flat_map corners_of members) v value → value ≡ one.first) ((value : ℤ) × IsUnderKey (flat_map corners_of members) v value × (value ≢ one.first)) → p ≡ q
+      by : (b : Bool) → not b ≡ false → MatchBool b ((value : ℤ) → IsUnderKey (flat_map corners_of members) v value → value ≡ one.first)
+          ((value : ℤ) × IsUnderKey (flat_map corners_of members) v value × (value ≢ one.first)) → p ≡ q
       by true e all = all p p_there ∙ sym (all q q_there)
       by false e other = absurd (true≢false e)
 
     -- where an id is none of the points, the spans there are linked outside it
-    linked_outside : (x : ℤ) → (Contains points x → ⊥) → (e f : Span) → Contains spans e → Contains spans f → HasEnd e x → HasEnd f x → e.a ≢ e.b → f.a ≢ f.b → LinkedOutside spans x e f
+    linked_outside : (x : ℤ) → (Contains points x → ⊥) → (e f : Span) → Contains spans e → Contains spans f → HasEnd e x → HasEnd f x → e.a ≢ e.b → f.a ≢ f.b
+        → LinkedOutside spans x e f
     linked_outside x outside e f e_has f_has e_end f_end e_differ f_differ =
         let (m, m_has, m_is) = of_span e e_has in
         let (n, n_has, n_is) = of_span f f_has in
         let (v, v_below, v_id, v_there) = corner_at e m x m_has m_is e_differ e_end in
         let (w, w_below, w_id, w_there) = corner_at f n x n_has n_is f_differ f_end in
         let same : v ≡ w = one_place names v w names_rise v_below w_below (v_id ∙ sym w_id) in
-        let whole : parts (get_or found v None) ≡ false = ⊎_elim (λ parted. absurd (outside ((at_places.each x).1 (v, v_below, parted, v_id)))) (λ e. e) (cases_Bool (parts (get_or found v None))) in
-        let component = one_component v m.component n.component whole (get_or found v None) refl (seen.each v v_below) v_there (subst (λ k. IsUnderKey (flat_map corners_of members) k n.component) (sym same) w_there) in
+        let whole : parts (get_or found v None) ≡ false = ⊎_elim (λ parted. absurd (outside ((at_places.each x).1 (v, v_below, parted, v_id)))) (λ e. e)
+        (cases_Bool (parts (get_or found v None))) in
+        let component = one_component v m.component n.component whole (get_or found v None) refl (seen.each v v_below) v_there
+        (subst (λ k. IsUnderKey (flat_map corners_of members) k n.component) (sym same) w_there) in
         outside_of spans e f (block_by_name spans rise e f m.component f_has m_is.name (subst (IsBlockName spans f) (sym component) n_is.name)) x
 
     pub are_points : ArePoints spans points

@@ -29,17 +29,20 @@ ends_of_spans spans names are = record {
       let (s, s_has, is) = Contains-from_map link_of spans link has in
       (s, s_has, ⊎_elim (λ at. inl (at ∙ ap (λ l. l.from) is)) (λ at. inr (at ∙ ap (λ l. l.to) is)) end)
 
-module _ (size : ℕ) (links : List (LinkOf ℕ)) (below : All (λ link. (link.from < size) × (link.to < size)) links) (given arrows : List Arrow) (are : given ≡ flat_map both_ways links) (moved : IsPermutation given arrows) where
+module _ (size : ℕ) (links : List (LinkOf ℕ)) (below : All (λ link. (link.from < size) × (link.to < size)) links) (given arrows : List Arrow)
+    (are : given ≡ flat_map both_ways links) (moved : IsPermutation given arrows) where
   -- what a link gives is there
   has_arrow : (link : LinkOf ℕ) (arrow : Arrow) → Contains links link → Contains (both_ways link) arrow → Contains arrows arrow
   has_arrow link arrow has among =
       Contains-permutation given arrows arrow moved (subst (λ xs. Contains xs arrow) (sym are) (Contains-flat_map both_ways links link arrow has among))
 
   -- and what is there is of a link
-  from_link : (v w : ℕ) → Contains arrows (record { from = v; to = w }) → (link : LinkOf ℕ) × Contains links link × (((link.from ≡ v) × (link.to ≡ w)) ⊎ ((link.from ≡ w) × (link.to ≡ v)))
+  from_link : (v w : ℕ) → Contains arrows (record { from = v; to = w })
+      → (link : LinkOf ℕ) × Contains links link × (((link.from ≡ v) × (link.to ≡ w)) ⊎ ((link.from ≡ w) × (link.to ≡ v)))
   from_link v w has =
       let arrow : Arrow = record { from = v; to = w } in
-      let (link, link_has, among) = Contains-from_flat_map both_ways links arrow (subst (λ xs. Contains xs arrow) are (Contains-permutation arrows given arrow (IsPermutation-sym given arrows moved) has)) in
+      let (link, link_has, among) = Contains-from_flat_map both_ways links arrow
+      (subst (λ xs. Contains xs arrow) are (Contains-permutation arrows given arrow (IsPermutation-sym given arrows moved) has)) in
       (link, link_has, by link among) where
         by : (link : LinkOf ℕ) → Contains (both_ways link) (record { from = v; to = w }) → ((link.from ≡ v) × (link.to ≡ w)) ⊎ ((link.from ≡ w) × (link.to ≡ v))
         by link (zero, inside, is) = inl (ap (λ a. a.from) is, ap (λ a. a.to) is)
@@ -55,7 +58,8 @@ module _ (size : ℕ) (links : List (LinkOf ℕ)) (below : All (λ link. (link.f
     along = λ link has. has_arrow link (record { from = link.from; to = link.to }) has (0, omega arith, refl);
     only = from_link;
   } where
-    bounds : (arrow : Arrow) → (link : LinkOf ℕ) × Contains links link × (((link.from ≡ arrow.from) × (link.to ≡ arrow.to)) ⊎ ((link.from ≡ arrow.to) × (link.to ≡ arrow.from))) → HasPlacesBelow size arrow
+    bounds : (arrow : Arrow) → (link : LinkOf ℕ) × Contains links link × (((link.from ≡ arrow.from) × (link.to ≡ arrow.to)) ⊎ ((link.from ≡ arrow.to) × (link.to ≡ arrow.from)))
+        → HasPlacesBelow size arrow
     bounds arrow (link, has, inl (from, to)) =
         let b = All-contains (λ l. (l.from < size) × (l.to < size)) links link below has in
         (subst (λ n. n < size) from b.0, subst (λ n. n < size) to b.1)
@@ -63,8 +67,11 @@ module _ (size : ℕ) (links : List (LinkOf ℕ)) (below : All (λ link. (link.f
         let b = All-contains (λ l. (l.from < size) × (l.to < size)) links link below has in
         (subst (λ n. n < size) to b.1, subst (λ n. n < size) from b.0)
 
-    back : (v w : ℕ) → (link : LinkOf ℕ) × Contains links link × (((link.from ≡ v) × (link.to ≡ w)) ⊎ ((link.from ≡ w) × (link.to ≡ v))) → Contains arrows (record { from = w; to = v })
+    back : (v w : ℕ) → (link : LinkOf ℕ) × Contains links link × (((link.from ≡ v) × (link.to ≡ w)) ⊎ ((link.from ≡ w) × (link.to ≡ v)))
+        → Contains arrows (record { from = w; to = v })
     back v w (link, has, inl (from, to)) =
-        subst (λ n. Contains arrows (record { from = n; to = v })) to (subst (λ n. Contains arrows (record { from = link.to; to = n })) from (has_arrow link (record { from = link.to; to = link.from }) has (1, omega arith, refl)))
+        subst (λ n. Contains arrows (record { from = n; to = v })) to
+        (subst (λ n. Contains arrows (record { from = link.to; to = n })) from (has_arrow link (record { from = link.to; to = link.from }) has (1, omega arith, refl)))
     back v w (link, has, inr (from, to)) =
-        subst (λ n. Contains arrows (record { from = n; to = v })) from (subst (λ n. Contains arrows (record { from = link.from; to = n })) to (has_arrow link (record { from = link.from; to = link.to }) has (0, omega arith, refl)))
+        subst (λ n. Contains arrows (record { from = n; to = v })) from
+        (subst (λ n. Contains arrows (record { from = link.from; to = n })) to (has_arrow link (record { from = link.from; to = link.to }) has (0, omega arith, refl)))

@@ -17,10 +17,12 @@ module _ (spans : List Span) (s : Span) where
     leads : LeadsOn (IsOtherSpan spans s) Linked first rest g
 
   -- what stands in a list behind its last s
-  behind : (Linked : Span → Span → Type 0) (e g : Span) (xs : List Span) → g ≢ s → LeadsOn (Contains spans) Linked e xs g → ((e ≢ s) × LeadsOn (IsOtherSpan spans s) Linked e xs g) ⊎ LeadsFrom Linked g
+  behind : (Linked : Span → Span → Type 0) (e g : Span) (xs : List Span) → g ≢ s → LeadsOn (Contains spans) Linked e xs g
+      → ((e ≢ s) × LeadsOn (IsOtherSpan spans s) Linked e xs g) ⊎ LeadsFrom Linked g
   behind Linked e g [] differs leads = inl ((λ same. differs (sym leads ∙ same)), leads)
   behind Linked e g (next ∷ rest) differs (has, linked, leads) = by (behind Linked next g rest differs leads) (cases_span e s) where
-    by : ((next ≢ s) × LeadsOn (IsOtherSpan spans s) Linked next rest g) ⊎ LeadsFrom Linked g → (e ≡ s) ⊎ (e ≢ s) → ((e ≢ s) × LeadsOn (IsOtherSpan spans s) Linked e (next ∷ rest) g) ⊎ LeadsFrom Linked g
+    by : ((next ≢ s) × LeadsOn (IsOtherSpan spans s) Linked next rest g) ⊎ LeadsFrom Linked g → (e ≡ s) ⊎ (e ≢ s)
+        → ((e ≢ s) × LeadsOn (IsOtherSpan spans s) Linked e (next ∷ rest) g) ⊎ LeadsFrom Linked g
     by (inr found) cases = inr found
     by (inl others) (inl same) = inr (record {
       first = next;
@@ -56,7 +58,8 @@ module _ (spans : List Span) (s : Span) where
       let at_a = from_s (ShareAnEndBeside s.b) g outside_b.0 differs outside_b.1 in
       let at_b = from_s (ShareAnEndBeside s.a) g outside_a.0 differs outside_a.1 in
       let there = weaken s.b at_a.first g at_a.rest at_a.leads in
-      let back = leads_back (IsOtherSpan spans s) ShareAnEnd (λ t u (y, t_end, u_end). (y, u_end, t_end)) at_b.first g at_b.rest at_b.has (weaken s.a at_b.first g at_b.rest at_b.leads) in
+      let back = leads_back (IsOtherSpan spans s) ShareAnEnd (λ t u (y, t_end, u_end). (y, u_end, t_end)) at_b.first g at_b.rest at_b.has
+      (weaken s.a at_b.first g at_b.rest at_b.leads) in
       bridge.1 (record {
         first = at_a.first;
         rest = at_a.rest ++ back.0;
@@ -75,7 +78,8 @@ module _ (spans : List Span) (s : Span) where
     linked : LinkedOutside spans s.a span s
 
   -- in a list of other spans that ends at the second end of s, the last span with the first end, or else all lack it
-  last_return : Contains spans s → s.a ≢ s.b → (e f : Span) (xs : List Span) → IsOtherSpan spans s e → LeadsOn (IsOtherSpan spans s) ShareAnEnd e xs f → HasEnd f s.b → Returns ⊎ ((HasEnd e s.a → ⊥) × LinkedOutside spans s.a e s)
+  last_return : Contains spans s → s.a ≢ s.b → (e f : Span) (xs : List Span) → IsOtherSpan spans s e → LeadsOn (IsOtherSpan spans s) ShareAnEnd e xs f → HasEnd f s.b
+      → Returns ⊎ ((HasEnd e s.a → ⊥) × LinkedOutside spans s.a e s)
   last_return s_has differ e f [] has leads at = by (cases_end e s.a) where
     linked : LinkedOutside spans s.a e s
     linked = outside_step spans s.a e s s_has (s.b, (λ same. differ (sym same)), subst (λ t. HasEnd t s.b) (sym leads) at, inr refl)
@@ -87,7 +91,8 @@ module _ (spans : List Span) (s : Span) where
     by : Returns ⊎ ((HasEnd next s.a → ⊥) × LinkedOutside spans s.a next s) → HasEnd e s.a ⊎ (HasEnd e s.a → ⊥) → Returns ⊎ ((HasEnd e s.a → ⊥) × LinkedOutside spans s.a e s)
     by (inl found) cases = inl found
     by (inr (lacks, linked)) cases =
-        let on : LinkedOutside spans s.a e s = outside_trans spans s.a e next s (outside_step spans s.a e next next_has.0 (y, (λ same. lacks (subst (HasEnd next) same y_next)), y_e, y_next)) linked in
+        let on : LinkedOutside spans s.a e s = outside_trans spans s.a e next s
+        (outside_step spans s.a e next next_has.0 (y, (λ same. lacks (subst (HasEnd next) same y_next)), y_e, y_next)) linked in
         ⊎_elim (λ here. inl (record { span = e; has = has; at = here; linked = on })) (λ without. inr (without, on)) cases
 
   -- a span with two ends that is alone in its block is a bridge
@@ -95,6 +100,7 @@ module _ (spans : List Span) (s : Span) where
   bridge_alone s_has differ alone = (
     differ,
     λ joins.
-        let found : Returns = ⊎_elim (λ found. found) (λ (lacks, linked). absurd (lacks joins.from)) (last_return s_has differ joins.first joins.last joins.rest joins.has joins.leads joins.to) in
+        let found : Returns = ⊎_elim (λ found. found) (λ (lacks, linked). absurd (lacks joins.from))
+        (last_return s_has differ joins.first joins.last joins.rest joins.has joins.leads joins.to) in
         alone found.span found.has.0 found.has.1 (block_sym spans found.span s found.has.0 (block_by_end spans found.span s s.a s_has found.at (inl refl) found.linked)),
   )

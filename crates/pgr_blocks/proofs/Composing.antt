@@ -70,13 +70,16 @@ module _ (size : ℕ) (arrows : List Arrow) (numbers parents : List (Option ℕ)
     segments_below k d inside =
         let within : k < length links = omega (arith, length-map links (segment_by numbers)) in
         let link = get_or links k (record { from = 0; edge = d.edge; cost = 0; to = 0 }) in
-        let is : get_or (map (segment_by numbers) links) k d ≡ segment_by numbers link = get_or-map (segment_by numbers) links k (record { from = 0; edge = d.edge; cost = 0; to = 0 }) d within in
+        let is : get_or (map (segment_by numbers) links) k d ≡ segment_by numbers link = get_or-map (segment_by numbers) links k
+        (record { from = 0; edge = d.edge; cost = 0; to = 0 }) d within in
         let ends = numbered.ends k (record { from = 0; edge = d.edge; cost = 0; to = 0 }) within in
         let from = number_below link.from (omega (arith, ends.0)) in
         let to = number_below link.to (omega (arith, ends.1)) in
         subst (IsSegmentBelow (length parents)) (sym is) (omega arith, omega (arith, from, to))
 
-module _ (spans : List Span) (rise : HaveRisingEdges spans) (names : List ℤ) (links : List (LinkOf ℕ)) (arrows : List Arrow) (numbers parents : List (Option ℕ)) (numbered : AreNumbered names (map link_of spans) links) (both : AreArrows (length names) links arrows) (search : IsDepthFirst (length names) arrows numbers parents) (members : List Member) (are : AreFound parents (map (segment_by numbers) links) members) where
+module _ (spans : List Span) (rise : HaveRisingEdges spans) (names : List ℤ) (links : List (LinkOf ℕ)) (arrows : List Arrow) (numbers parents : List (Option ℕ))
+    (numbered : AreNumbered names (map link_of spans) links) (both : AreArrows (length names) links arrows) (search : IsDepthFirst (length names) arrows numbers parents)
+    (members : List Member) (are : AreFound parents (map (segment_by numbers) links) members) where
   -- the edges of the segments are those of the spans
   segment_edges : map (λ g. g.edge) (map (segment_by numbers) links) ≡ map (λ s. s.edge) spans
   segment_edges =
@@ -90,11 +93,14 @@ module _ (spans : List Span) (rise : HaveRisingEdges spans) (names : List ℤ) (
 
   segments_rise : AllPairs (λ g h. int_cmp g.edge h.edge ≡ Less) (map (segment_by numbers) links)
   segments_rise =
-      AllPairs-from_map (λ x y. int_cmp x y ≡ Less) (λ (g : Segment). g.edge) (map (segment_by numbers) links) (subst (AllPairs (λ x y. int_cmp x y ≡ Less)) (sym segment_edges) edges_rise)
+      AllPairs-from_map (λ x y. int_cmp x y ≡ Less) (λ (g : Segment). g.edge) (map (segment_by numbers) links)
+      (subst (AllPairs (λ x y. int_cmp x y ≡ Less)) (sym segment_edges) edges_rise)
 
   members_rise : AllPairs (λ m n. int_cmp m.edge n.edge ≡ Less) members
   members_rise =
-      let edges : map (λ m. m.edge) members ≡ map (λ g. g.edge) (map (segment_by numbers) links) = ap (map (λ m. m.edge)) are.members_are ∙ map_through (λ (m : Member). m.edge) (member_of are.tops are.found) (λ g. g.edge) (λ g. member_edge g (cond (eqb g.near g.far) None (get_or are.found (get_or are.tops g.far 0) None))) (map (segment_by numbers) links) in
+      let edges : map (λ m. m.edge) members ≡ map (λ g. g.edge) (map (segment_by numbers) links) = ap (map (λ m. m.edge)) are.members_are
+      ∙ map_through (λ (m : Member). m.edge) (member_of are.tops are.found) (λ g. g.edge)
+      (λ g. member_edge g (cond (eqb g.near g.far) None (get_or are.found (get_or are.tops g.far 0) None))) (map (segment_by numbers) links) in
       AllPairs-from_map (λ x y. int_cmp x y ≡ Less) (λ (m : Member). m.edge) members (subst (AllPairs (λ x y. int_cmp x y ≡ Less)) (sym (edges ∙ segment_edges)) edges_rise)
 
   -- what a segment gives the entries
@@ -120,11 +126,15 @@ module _ (spans : List Span) (rise : HaveRisingEdges spans) (names : List ℤ) (
 
   of_span : (s : Span) → Contains spans s → (member : Member) × Contains members member × IsMemberOf spans names s member
   of_span =
-      member_of_span spans rise names (numbering names numbers) parents (is_forest spans names links arrows numbers parents numbered both search) (map (segment_by numbers) links) (segment_of_span spans names links arrows numbers parents numbered both search) (span_of_segment spans names links arrows numbers parents numbered both search) members are entries_rise
+      member_of_span spans rise names (numbering names numbers) parents (is_forest spans names links arrows numbers parents numbered both search) (map (segment_by numbers) links)
+      (segment_of_span spans names links arrows numbers parents numbered both search)
+      (span_of_segment spans names links arrows numbers parents numbered both search) members are entries_rise
 
   of_member : (member : Member) → Contains members member → (s : Span) × Contains spans s × IsMemberOf spans names s member
   of_member =
-      span_of_member spans rise names (numbering names numbers) parents (is_forest spans names links arrows numbers parents numbered both search) (map (segment_by numbers) links) (segment_of_span spans names links arrows numbers parents numbered both search) (span_of_segment spans names links arrows numbers parents numbered both search) members are entries_rise
+      span_of_member spans rise names (numbering names numbers) parents (is_forest spans names links arrows numbers parents numbered both search) (map (segment_by numbers) links)
+      (segment_of_span spans names links arrows numbers parents numbered both search)
+      (span_of_segment spans names links arrows numbers parents numbered both search) members are entries_rise
 
   pub classes_are : (classes : List Classed) → IsPermutation (map classed_of members) classes → IsSorted classed_cmp classes → AreClasses spans classes
   classes_are = are_classes spans rise names numbered.rise members members_rise of_span of_member
@@ -133,7 +143,8 @@ module _ (spans : List Span) (rise : HaveRisingEdges spans) (names : List ℤ) (
   bridges_are bridges is =
       subst (AreBridges spans) (sym is) (are_bridges spans rise names numbered.rise members members_rise of_span of_member)
 
-  pub points_are : (corners : List Entry) (found : List (Option Seen)) (points : List ℤ) → corners ≡ flat_map corners_of members → AreSeen (length names) corners found → ArePointsAt names found points → ArePoints spans points
+  pub points_are : (corners : List Entry) (found : List (Option Seen)) (points : List ℤ) → corners ≡ flat_map corners_of members → AreSeen (length names) corners found
+      → ArePointsAt names found points → ArePoints spans points
   points_are corners found points is seen at_places =
       are_points spans rise names numbered.rise members members_rise of_span of_member found (subst (λ es. AreSeen (length names) es found) is seen) points at_places
 
@@ -144,32 +155,47 @@ module _ (spans : List Span) (rise : HaveRisingEdges spans) (names : List ℤ) (
       let (m, m_has, among) = Contains-from_flat_map corners_of members (get_or corners k d) there in
       let (s, s_has, m_is) = of_member m m_has in
       by m (get_or corners k d) m_is.from_below m_is.to_below (eqb m.from m.to) among where
-        by : (m : Member) (entry : Entry) → m.from < length names → m.to < length names → (b : Bool) → Contains (cond b [] (record { key = m.from; value = m.component } ∷ record { key = m.to; value = m.component } ∷ [])) entry → entry.key < length names
+        by : (m : Member) (entry : Entry) → m.from < length names → m.to < length names → (b : Bool)
+            → Contains (cond b [] (record { key = m.from; value = m.component } ∷ record { key = m.to; value = m.component } ∷ [])) entry → entry.key < length names
         by m entry from to true (n, within, at) = absurd (omega arith)
         by m entry from to false (zero, within, at) = subst (λ v. v < length names) (ap (λ e. e.key) at) from
         by m entry from to false (suc zero, within, at) = subst (λ v. v < length names) (ap (λ e. e.key) at) to
         by m entry from to false (suc (suc n), within, at) = absurd (omega arith)
 
 -- what was found for spans: their numbering, the search over it, and their members
-pub record AreComposed (spans : List Span) (names : List ℤ) (links : List (LinkOf ℕ)) (arrows : List Arrow) (numbers parents : List (Option ℕ)) (members : List Member) : Type 0 where
+pub record AreComposed (spans : List Span) (names : List ℤ) (links : List (LinkOf ℕ)) (arrows : List Arrow) (numbers parents : List (Option ℕ))
+    (members : List Member) : Type 0 where
   pub numbered : AreNumbered names (map link_of spans) links
   pub both : AreArrows (length names) links arrows
   pub search : IsDepthFirst (length names) arrows numbers parents
   pub are : AreFound parents (map (segment_by numbers) links) members
 
 -- it from what each step says of the lists that it is given
-pub composed : (spans : List Span) (names : List ℤ) (links given_links : List (LinkOf ℕ)) (arrows given_arrows : List Arrow) (numbers given_numbers parents given_parents : List (Option ℕ)) (segments given_segments : List Segment) (members : List Member) (size : ℕ) → AreNumbered names (map link_of spans) links → AreArrows (length names) links arrows → IsDepthFirst size given_arrows numbers parents → segments ≡ map (segment_by given_numbers) given_links → AreFound given_parents given_segments members → size ≡ length names → given_arrows ≡ arrows → given_links ≡ links → given_numbers ≡ numbers → given_parents ≡ parents → given_segments ≡ segments → AreComposed spans names links arrows numbers parents members
-composed spans names links given_links arrows given_arrows numbers given_numbers parents given_parents segments given_segments members size numbered both search segments_are are size_is arrows_is links_is numbers_is parents_is segments_is = record {
-  numbered = numbered;
-  both = both;
-  search = subst (λ n. IsDepthFirst n arrows numbers parents) size_is (subst (λ xs. IsDepthFirst size xs numbers parents) arrows_is search);
-  are =
-      let given : given_segments ≡ map (segment_by numbers) links = segments_is ∙ (segments_are ∙ (ap (λ ns. map (segment_by ns) given_links) numbers_is ∙ ap (map (segment_by numbers)) links_is)) in
-      subst (λ gs. AreFound parents gs members) given (subst (λ ps. AreFound ps given_segments members) parents_is are);
-}
+pub composed : (spans : List Span) (names : List ℤ) (links given_links : List (LinkOf ℕ)) (arrows given_arrows : List Arrow)
+    (numbers given_numbers parents given_parents : List (Option ℕ)) (segments given_segments : List Segment) (members : List Member) (size : ℕ)
+    → AreNumbered names (map link_of spans) links → AreArrows (length names) links arrows → IsDepthFirst size given_arrows numbers parents
+    → segments ≡ map (segment_by given_numbers) given_links → AreFound given_parents given_segments members → size ≡ length names → given_arrows ≡ arrows → given_links ≡ links
+    → given_numbers ≡ numbers → given_parents ≡ parents → given_segments ≡ segments → AreComposed spans names links arrows numbers parents members
+composed spans names links given_links arrows given_arrows numbers given_numbers parents given_parents segments given_segments members size numbered both search segments_are are
+    size_is arrows_is links_is numbers_is parents_is segments_is = record {
+      numbered = numbered;
+      both = both;
+      search = subst (λ n. IsDepthFirst n arrows numbers parents) size_is (subst (λ xs. IsDepthFirst size xs numbers parents) arrows_is search);
+      are =
+          let given : given_segments ≡ map (segment_by numbers) links = segments_is
+          ∙ (segments_are ∙ (ap (λ ns. map (segment_by ns) given_links) numbers_is ∙ ap (map (segment_by numbers)) links_is)) in
+          subst (λ gs. AreFound parents gs members) given (subst (λ ps. AreFound ps given_segments members) parents_is are);
+    }
 
 -- the segments are below the count of numbers
-pub composed_below : (names : List ℤ) (named_links : List (LinkOf ℤ)) (links given_links : List (LinkOf ℕ)) (arrows : List Arrow) (numbers given_numbers parents given_parents : List (Option ℕ)) (segments given_segments : List Segment) (size : ℕ) → AreNumbered names named_links links → IsDepthFirst size arrows numbers parents → segments ≡ map (segment_by given_numbers) given_links → size ≡ length names → given_links ≡ links → given_numbers ≡ numbers → given_parents ≡ parents → given_segments ≡ segments → All (IsSegmentBelow (length given_parents)) given_segments
-composed_below names named_links links given_links arrows numbers given_numbers parents given_parents segments given_segments size numbered search segments_are size_is links_is numbers_is parents_is segments_is =
-    let given : given_segments ≡ map (segment_by numbers) links = segments_is ∙ (segments_are ∙ (ap (λ ns. map (segment_by ns) given_links) numbers_is ∙ ap (map (segment_by numbers)) links_is)) in
-    subst (λ gs. All (IsSegmentBelow (length given_parents)) gs) (sym given) (subst (λ ps. All (IsSegmentBelow (length ps)) (map (segment_by numbers) links)) (sym parents_is) (segments_below size arrows numbers parents search names named_links links numbered size_is))
+pub composed_below : (names : List ℤ) (named_links : List (LinkOf ℤ)) (links given_links : List (LinkOf ℕ)) (arrows : List Arrow)
+    (numbers given_numbers parents given_parents : List (Option ℕ)) (segments given_segments : List Segment) (size : ℕ) → AreNumbered names named_links links
+    → IsDepthFirst size arrows numbers parents → segments ≡ map (segment_by given_numbers) given_links → size ≡ length names → given_links ≡ links → given_numbers ≡ numbers
+    → given_parents ≡ parents → given_segments ≡ segments → All (IsSegmentBelow (length given_parents)) given_segments
+composed_below names named_links links given_links arrows numbers given_numbers parents given_parents segments given_segments size numbered search segments_are size_is links_is
+    numbers_is parents_is segments_is =
+    let given : given_segments ≡ map (segment_by numbers) links = segments_is
+    ∙ (segments_are ∙ (ap (λ ns. map (segment_by ns) given_links) numbers_is ∙ ap (map (segment_by numbers)) links_is)) in
+    subst (λ gs. All (IsSegmentBelow (length given_parents)) gs) (sym given)
+    (subst (λ ps. All (IsSegmentBelow (length ps)) (map (segment_by numbers) links)) (sym parents_is)
+    (segments_below size arrows numbers parents search names named_links links numbered size_is))

@@ -23,17 +23,20 @@ points_none names found = record {
 }
 
 -- a place whose values don't differ
-pub points_skip : (names : List ℤ) (found : List (Option Seen)) (n : ℕ) (points : List ℤ) → parts (get_or found n None) ≡ false → ArePointsUpTo names found n points → ArePointsUpTo names found (n + 1) points
+pub points_skip : (names : List ℤ) (found : List (Option Seen)) (n : ℕ) (points : List ℤ) → parts (get_or found n None) ≡ false → ArePointsUpTo names found n points
+    → ArePointsUpTo names found (n + 1) points
 points_skip names found n points none are = record {
   rise = are.rise;
   each = λ id. (
     (λ has. let (v, below, parted, is) = (are.each id).0 has in (v, omega arith, parted, is)),
-    (λ (v, below, parted, is). ⊎_elim (λ same. let no = ap (λ i. parts (get_or found i None)) same ∙ none in absurd cc) (λ differs. (are.each id).1 (v, omega arith, parted, is)) (cases_eq v n)),
+    (λ (v, below, parted, is). ⊎_elim (λ same. let no = ap (λ i. parts (get_or found i None)) same ∙ none in absurd cc) (λ differs. (are.each id).1 (v, omega arith, parted, is))
+        (cases_eq v n)),
   );
 }
 
 -- and one whose values do
-pub points_push : (names : List ℤ) (found : List (Option Seen)) (n : ℕ) (points : List ℤ) → IsStrictlyRising int_cmp names → n < length names → parts (get_or found n None) ≡ true → ArePointsUpTo names found n points → ArePointsUpTo names found (n + 1) (points ++ id_at names n ∷ [])
+pub points_push : (names : List ℤ) (found : List (Option Seen)) (n : ℕ) (points : List ℤ) → IsStrictlyRising int_cmp names → n < length names → parts (get_or found n None) ≡ true
+    → ArePointsUpTo names found n points → ArePointsUpTo names found (n + 1) (points ++ id_at names n ∷ [])
 points_push names found n points rise inside parted are = record {
   rise = all_pairs_push (λ x y. int_cmp x y ≡ Less) points (id_at names n) are.rise (λ k d below.
       let (v, v_below, v_parted, is) = (are.each (get_or points k d)).0 (Contains-get_or points k d below) in

@@ -29,5 +29,7 @@ ends_to spans id (span, has, end) =
 pub ends_few : (spans : List Span) (ends : List ℤ) → AreEndsOf spans ends → length ends ≤ 2 * length spans
 ends_few spans ends are =
     let apart = IsDistinct-from_apart int_eq ends (λ i j d before inside. ap is_eq (are.rise i j d before inside)) in
-    let fewer = length-le_from_is_member int_eq_equiv ends (ends_in_turn spans) apart (λ id there. list_any-from_Contains int_eq_equiv id (ends_in_turn spans) (ends_to spans id ((are.each id).0 (Contains-from_any (λ x y. (signed_Decides x y).0) id ends there)))) in
+    let fewer = length-le_from_is_member int_eq_equiv ends (ends_in_turn spans) apart
+    (λ id there. list_any-from_Contains int_eq_equiv id (ends_in_turn spans)
+    (ends_to spans id ((are.each id).0 (Contains-from_any (λ x y. (signed_Decides x y).0) id ends there)))) in
     omega (arith, simp (length-append, length-map) at fewer)

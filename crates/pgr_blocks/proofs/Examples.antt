@@ -66,7 +66,16 @@ the_middle_is_a_point = (
   apart 5 7 (omega arith),
   apart 5 6 (omega arith),
   (λ same. apart 6 7 (omega arith) (sym same)),
-  record { first = span 1 5 6; rest = span 2 6 7 ∷ []; last = span 2 6 7; has = (0, omega arith, refl); from = inl refl; leads = ((1, omega arith, refl), (pos 6, inr refl, inl refl), refl); to = inr refl },
+  record {
+    first = span 1 5 6;
+    rest = span 2 6 7 ∷ [];
+    last = span 2 6 7;
+    has = (0, omega arith, refl);
+    from = inl refl;
+    leads =
+        ((1, omega arith, refl), (pos 6, inr refl, inl refl), refl);
+    to = inr refl;
+  },
   λ joins. joins.has.1 (⊎_elim
       (λ is. subst (λ s. HasEnd s (pos 6)) is (inr refl))
       (λ is. subst (λ s. HasEnd s (pos 6)) is (inl refl))

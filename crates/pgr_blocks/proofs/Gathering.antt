@@ -27,7 +27,8 @@ module _ (done : List Entry) (entry : Entry) where
   under_more key value has = Contains-append_left done (entry ∷ []) (record { key = key; value = value }) has
 
   under_cases : (key : ℕ) (value : ℤ) → IsUnderKey (done ++ entry ∷ []) key value → IsUnderKey done key value ⊎ ((entry.key ≡ key) × (entry.value ≡ value))
-  under_cases key value has = ⊎_elim (λ old. inl old) (λ last. inr (ap (λ e. e.key) last, ap (λ e. e.value) last)) (Contains-push_cases done entry (record { key = key; value = value }) has)
+  under_cases key value has = ⊎_elim (λ old. inl old) (λ last. inr (ap (λ e. e.key) last, ap (λ e. e.value) last))
+      (Contains-push_cases done entry (record { key = key; value = value }) has)
 
   -- what is known under another key stays
   known_other : (key : ℕ) (known : Option Seen) → key ≢ entry.key → IsKnown done key known → IsKnown (done ++ entry ∷ []) key known
@@ -40,7 +41,9 @@ module _ (done : List Entry) (entry : Entry) where
     old : (value : ℤ) → IsUnderKey (done ++ entry ∷ []) key value → IsUnderKey done key value
     old value has = ⊎_elim (λ earlier. earlier) (λ (at, same). absurd (differs (sym at))) (under_cases key value has)
 
-    others : (b : Bool) → MatchBool b ((value : ℤ) → IsUnderKey done key value → value ≡ seen.first) ((value : ℤ) × IsUnderKey done key value × (value ≢ seen.first)) → MatchBool b ((value : ℤ) → IsUnderKey (done ++ entry ∷ []) key value → value ≡ seen.first) ((value : ℤ) × IsUnderKey (done ++ entry ∷ []) key value × (value ≢ seen.first))
+    others : (b : Bool) → MatchBool b ((value : ℤ) → IsUnderKey done key value → value ≡ seen.first) ((value : ℤ) × IsUnderKey done key value × (value ≢ seen.first))
+        → MatchBool b ((value : ℤ) → IsUnderKey (done ++ entry ∷ []) key value → value ≡ seen.first)
+        ((value : ℤ) × IsUnderKey (done ++ entry ∷ []) key value × (value ≢ seen.first))
     others true all = λ value has. all value (old value has)
     others false (value, has, not) = (value, under_more key value has, not)
 
@@ -59,28 +62,41 @@ module _ (done : List Entry) (entry : Entry) where
         (under_cases entry.key value has);
     others = others seen.same (int_eq seen.first entry.value) refl is.others;
   } where
-    others : (same equal : Bool) → int_eq seen.first entry.value ≡ equal → MatchBool same ((value : ℤ) → IsUnderKey done entry.key value → value ≡ seen.first) ((value : ℤ) × IsUnderKey done entry.key value × (value ≢ seen.first)) → MatchBool (same && equal) ((value : ℤ) → IsUnderKey (done ++ entry ∷ []) entry.key value → value ≡ seen.first) ((value : ℤ) × IsUnderKey (done ++ entry ∷ []) entry.key value × (value ≢ seen.first))
+    others : (same equal : Bool) → int_eq seen.first entry.value ≡ equal
+        → MatchBool same ((value : ℤ) → IsUnderKey done entry.key value → value ≡ seen.first) ((value : ℤ) × IsUnderKey done entry.key value × (value ≢ seen.first))
+        → MatchBool (same && equal) ((value : ℤ) → IsUnderKey (done ++ entry ∷ []) entry.key value → value ≡ seen.first)
+        ((value : ℤ) × IsUnderKey (done ++ entry ∷ []) entry.key value × (value ≢ seen.first))
     others true true e all = λ value has. ⊎_elim (all value) (λ (at, last). sym last ∙ sym ((signed_Decides seen.first entry.value).0 e)) (under_cases entry.key value has)
     others true false e all = (entry.value, Contains-push done entry, λ same. let yes = (signed_Decides seen.first entry.value).1 (sym same) in cc)
     others false equal e (value, has, not) = (value, under_more entry.key value has, not)
 
 -- what is known of all keys, with one more entry
-pub seen_more : (size : ℕ) (done : List Entry) (found : List (Option Seen)) (entry : Entry) → entry.key < size → AreSeen size done found → AreSeen size (done ++ entry ∷ []) (set found entry.key (Some (seen_next (get_or found entry.key None) entry.value)))
+pub seen_more : (size : ℕ) (done : List Entry) (found : List (Option Seen)) (entry : Entry) → entry.key < size → AreSeen size done found
+    → AreSeen size (done ++ entry ∷ []) (set found entry.key (Some (seen_next (get_or found entry.key None) entry.value)))
 seen_more size done found entry below are = record {
   size_is = length-set found entry.key (Some (seen_next (get_or found entry.key None) entry.value)) ∙ are.size_is;
   each = λ key inside. each key inside (cases_eq key entry.key);
 } where
-  each : (key : ℕ) → key < size → (key ≡ entry.key) ⊎ (key ≡ entry.key → ⊥) → IsKnown (done ++ entry ∷ []) key (get_or (set found entry.key (Some (seen_next (get_or found entry.key None) entry.value))) key None)
+  each : (key : ℕ) → key < size → (key ≡ entry.key) ⊎ (key ≡ entry.key → ⊥)
+      → IsKnown (done ++ entry ∷ []) key (get_or (set found entry.key (Some (seen_next (get_or found entry.key None) entry.value))) key None)
   each key inside (inl same) =
-      let at : get_or (set found entry.key (Some (seen_next (get_or found entry.key None) entry.value))) entry.key None ≡ Some (seen_next (get_or found entry.key None) entry.value) = get_or-set_same found entry.key (Some (seen_next (get_or found entry.key None) entry.value)) None (let e = are.size_is in omega arith) in
-      let known : IsKnown (done ++ entry ∷ []) entry.key (Some (seen_next (get_or found entry.key None) entry.value)) = known_next done entry (get_or found entry.key None) (are.each entry.key below) in
-      subst (λ k. IsKnown (done ++ entry ∷ []) k (get_or (set found entry.key (Some (seen_next (get_or found entry.key None) entry.value))) k None)) (sym same) (subst (IsKnown (done ++ entry ∷ []) entry.key) (sym at) known)
+      let at : get_or (set found entry.key (Some (seen_next (get_or found entry.key None) entry.value))) entry.key None ≡ Some
+      (seen_next (get_or found entry.key None) entry.value) = get_or-set_same found entry.key (Some (seen_next (get_or found entry.key None) entry.value)) None
+      (let e = are.size_is in omega arith) in
+      let known : IsKnown (done ++ entry ∷ []) entry.key (Some (seen_next (get_or found entry.key None) entry.value)) = known_next done entry (get_or found entry.key None)
+      (are.each entry.key below) in
+      subst (λ k. IsKnown (done ++ entry ∷ []) k (get_or (set found entry.key (Some (seen_next (get_or found entry.key None) entry.value))) k None)) (sym same)
+      (subst (IsKnown (done ++ entry ∷ []) entry.key) (sym at) known)
   each key inside (inr differs) =
-      subst (IsKnown (done ++ entry ∷ []) key) (sym (get_or-set_other found entry.key key (Some (seen_next (get_or found entry.key None) entry.value)) None differs)) (known_other done entry key (get_or found key None) differs (are.each key inside))
+      subst (IsKnown (done ++ entry ∷ []) key) (sym (get_or-set_other found entry.key key (Some (seen_next (get_or found entry.key None) entry.value)) None differs))
+      (known_other done entry key (get_or found key None) differs (are.each key inside))
 
 -- the next of some entries is noted
-pub noted_more : (size : ℕ) (entries : List Entry) (i : ℕ) (d : Entry) (old found new : List (Option Seen)) → i < length entries → old ≡ found → new ≡ set old (get_or entries i d).key (Some (seen_next (get_or old (get_or entries i d).key None) (get_or entries i d).value)) → (get_or entries i d).key < size → AreSeen size (take i entries) found → AreSeen size (take (i + 1) entries) new
+pub noted_more : (size : ℕ) (entries : List Entry) (i : ℕ) (d : Entry) (old found new : List (Option Seen)) → i < length entries → old ≡ found
+    → new ≡ set old (get_or entries i d).key (Some (seen_next (get_or old (get_or entries i d).key None) (get_or entries i d).value)) → (get_or entries i d).key < size
+    → AreSeen size (take i entries) found → AreSeen size (take (i + 1) entries) new
 noted_more size entries i d old found new inside same is below are =
     let next = seen_more size (take i entries) found (get_or entries i d) below are in
-    let written_is : new ≡ set found (get_or entries i d).key (Some (seen_next (get_or found (get_or entries i d).key None) (get_or entries i d).value)) = is ∙ ap (λ fs. set fs (get_or entries i d).key (Some (seen_next (get_or fs (get_or entries i d).key None) (get_or entries i d).value))) same in
+    let written_is : new ≡ set found (get_or entries i d).key (Some (seen_next (get_or found (get_or entries i d).key None) (get_or entries i d).value)) = is
+    ∙ ap (λ fs. set fs (get_or entries i d).key (Some (seen_next (get_or fs (get_or entries i d).key None) (get_or entries i d).value))) same in
     subst (λ es. AreSeen size es new) (sym (take_more entries i d inside)) (subst (AreSeen size (take i entries ++ get_or entries i d ∷ [])) (sym written_is) next)

@@ -22,7 +22,8 @@ AllPairs-last R xs y x pairs (k, inside, is) =
     subst (λ z. R x z) second (subst (λ z. R z (get_or (xs ++ y ∷ []) (length xs) x)) first (pairs k (length xs) x inside (omega arith)))
 
 -- pairs of two lists, and of an element of each
-pub AllPairs-append : {X : Type 0} (R : X → X → Type 0) (xs ys : List X) → AllPairs R xs → AllPairs R ys → ((x y : X) → Contains xs x → Contains ys y → R x y) → AllPairs R (xs ++ ys)
+pub AllPairs-append : {X : Type 0} (R : X → X → Type 0) (xs ys : List X) → AllPairs R xs → AllPairs R ys → ((x y : X) → Contains xs x → Contains ys y → R x y)
+    → AllPairs R (xs ++ ys)
 AllPairs-append R xs ys first second across i j d before inside = by (cases_lt i (length xs)) (cases_lt j (length xs)) where
   longer : length (xs ++ ys) ≡ length xs + length ys
   longer = length-append xs ys
@@ -37,10 +38,13 @@ AllPairs-append R xs ys first second across i j d before inside = by (cases_lt i
   by (inl i_in) (inl j_in) =
       subst (λ y. R (get_or (xs ++ ys) i d) y) (sym (in_first j j_in)) (subst (λ x. R x (get_or xs j d)) (sym (in_first i i_in)) (first i j d before j_in))
   by (inl i_in) (inr j_out) =
-      subst (λ y. R (get_or (xs ++ ys) i d) y) (sym (in_second j j_out)) (subst (λ x. R x (get_or ys (j - length xs) d)) (sym (in_first i i_in)) (across (get_or xs i d) (get_or ys (j - length xs) d) (Contains-get_or xs i d i_in) (Contains-get_or ys (j - length xs) d (omega (arith, length-append xs ys)))))
+      subst (λ y. R (get_or (xs ++ ys) i d) y) (sym (in_second j j_out))
+      (subst (λ x. R x (get_or ys (j - length xs) d)) (sym (in_first i i_in))
+      (across (get_or xs i d) (get_or ys (j - length xs) d) (Contains-get_or xs i d i_in) (Contains-get_or ys (j - length xs) d (omega (arith, length-append xs ys)))))
   by (inr i_out) (inl j_in) = absurd (omega arith)
   by (inr i_out) (inr j_out) =
-      subst (λ y. R (get_or (xs ++ ys) i d) y) (sym (in_second j j_out)) (subst (λ x. R x (get_or ys (j - length xs) d)) (sym (in_second i i_out)) (second (i - length xs) (j - length xs) d (omega arith) (omega (arith, length-append xs ys))))
+      subst (λ y. R (get_or (xs ++ ys) i d) y) (sym (in_second j j_out))
+      (subst (λ x. R x (get_or ys (j - length xs) d)) (sym (in_second i i_out)) (second (i - length xs) (j - length xs) d (omega arith) (omega (arith, length-append xs ys))))
 
 -- what passes a filter
 pub Contains-filter : {X : Type 0} (p : X → Bool) (xs : List X) (x : X) → Contains xs x → p x ≡ true → Contains (filter p xs) x
@@ -60,7 +64,8 @@ Contains-filter p (y ∷ ys) x (suc k, inside, is) passes =
 pub Contains-from_filter : {X : Type 0} (p : X → Bool) (xs : List X) (x : X) → Contains (filter p xs) x → Contains xs x × (p x ≡ true)
 Contains-from_filter p [] x (k, inside, is) = absurd (omega arith)
 Contains-from_filter p (y ∷ ys) x found = by (p y) refl found (λ rest. Contains-from_filter p ys x rest) where
-  by : (b : Bool) → p y ≡ b → Contains (cond (p y) (y ∷ filter p ys) (filter p ys)) x → (Contains (filter p ys) x → Contains ys x × (p x ≡ true)) → Contains (y ∷ ys) x × (p x ≡ true)
+  by : (b : Bool) → p y ≡ b → Contains (cond (p y) (y ∷ filter p ys) (filter p ys)) x → (Contains (filter p ys) x → Contains ys x × (p x ≡ true))
+      → Contains (y ∷ ys) x × (p x ≡ true)
   by true e there on = head (subst (λ b. Contains (cond b (y ∷ filter p ys) (filter p ys)) x) e there) where
     head : Contains (y ∷ filter p ys) x → Contains (y ∷ ys) x × (p x ≡ true)
     head (zero, inside, is) = ((0, omega arith, is), ap p (sym is) ∙ e)
@@ -92,7 +97,8 @@ Contains-flat_map f (z ∷ zs) x y (suc k, inside, is) has =
     Contains-append_right (f z) (flat_map f zs) y (Contains-flat_map f zs x y (k, omega arith, is) has)
 
 -- an element of the first list, or of a later one
-from_first : {X Y : Type 0} (f : X → List Y) (z : X) (zs : List X) (y : Y) → Contains (f z) y ⊎ Contains (flat_map f zs) y → (Contains (flat_map f zs) y → (x : X) × Contains zs x × Contains (f x) y) → (x : X) × Contains (z ∷ zs) x × Contains (f x) y
+from_first : {X Y : Type 0} (f : X → List Y) (z : X) (zs : List X) (y : Y) → Contains (f z) y ⊎ Contains (flat_map f zs) y
+    → (Contains (flat_map f zs) y → (x : X) × Contains zs x × Contains (f x) y) → (x : X) × Contains (z ∷ zs) x × Contains (f x) y
 from_first f z zs y (inl here) on = (z, (0, omega arith, refl), here)
 from_first f z zs y (inr later) on = let (x, (k, inside, is), among) = on later in (x, (suc k, omega arith, is), among)
 
@@ -110,7 +116,8 @@ pub AllPairs-tail : {X : Type 0} (R : X → X → Type 0) (x : X) (xs : List X) 
 AllPairs-tail R x xs pairs i j d before inside = pairs (suc i) (suc j) d (omega arith) (omega arith)
 
 -- pairs of a flat map
-pub AllPairs-flat_map : {X Y : Type 0} (R : X → X → Type 0) (S : Y → Y → Type 0) (f : X → List Y) → ((x : X) → AllPairs S (f x)) → ((x z : X) (y w : Y) → R x z → Contains (f x) y → Contains (f z) w → S y w) → (xs : List X) → AllPairs R xs → AllPairs S (flat_map f xs)
+pub AllPairs-flat_map : {X Y : Type 0} (R : X → X → Type 0) (S : Y → Y → Type 0) (f : X → List Y) → ((x : X) → AllPairs S (f x))
+    → ((x z : X) (y w : Y) → R x z → Contains (f x) y → Contains (f z) w → S y w) → (xs : List X) → AllPairs R xs → AllPairs S (flat_map f xs)
 AllPairs-flat_map R S f inner across [] pairs = λ i j d before inside. absurd (omega arith)
 AllPairs-flat_map R S f inner across (x ∷ xs) pairs =
     AllPairs-append S (f x) (flat_map f xs) (inner x) (AllPairs-flat_map R S f inner across xs (AllPairs-tail R x xs pairs))

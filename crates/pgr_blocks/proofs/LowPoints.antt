@@ -35,7 +35,9 @@ pub lowered_low : (lows : List ℕ) (v low : ℕ) → v < length lows → get_or
 lowered_low lows v low inside = let here = lowered_here lows v low inside in omega arith
 
 -- lowered to what a segment from below leads to, each number is still reached
-pub lowered_reached : (parents : List (Option ℕ)) (segments : List Segment) (lows : List ℕ) (v low : ℕ) → v < length parents → AreReached parents segments lows → (low < get_or lows v 0 → (segment : Segment) × Contains segments segment × (segment.near ≡ low) × IsAncestor parents v segment.far) → AreReached parents segments (lowered lows v low)
+pub lowered_reached : (parents : List (Option ℕ)) (segments : List Segment) (lows : List ℕ) (v low : ℕ) → v < length parents → AreReached parents segments lows
+    → (low < get_or lows v 0 → (segment : Segment) × Contains segments segment × (segment.near ≡ low) × IsAncestor parents v segment.far)
+    → AreReached parents segments (lowered lows v low)
 lowered_reached parents segments lows v low inside are leads = record {
   size = length-set lows v (min (get_or lows v 0) low) ∙ are.size;
   itself = λ u below. let le = lowered_le lows v low u within in let was = are.itself u below in omega arith;
@@ -44,7 +46,10 @@ lowered_reached parents segments lows v low inside are leads = record {
   within : v < length lows
   within = let e = are.size in omega arith
 
-  reached : (u : ℕ) → u < length parents → (u ≡ v) ⊎ (u ≡ v → ⊥) → (low < get_or lows v 0) ⊎ (get_or lows v 0 ≤ low) → (get_or lows u 0 ≡ u) ⊎ ((segment : Segment) × Contains segments segment × (segment.near ≡ get_or lows u 0) × IsAncestor parents u segment.far) → (get_or (lowered lows v low) u 0 ≡ u) ⊎ ((segment : Segment) × Contains segments segment × (segment.near ≡ get_or (lowered lows v low) u 0) × IsAncestor parents u segment.far)
+  reached : (u : ℕ) → u < length parents → (u ≡ v) ⊎ (u ≡ v → ⊥) → (low < get_or lows v 0) ⊎ (get_or lows v 0 ≤ low)
+      → (get_or lows u 0 ≡ u) ⊎ ((segment : Segment) × Contains segments segment × (segment.near ≡ get_or lows u 0) × IsAncestor parents u segment.far)
+      → (get_or (lowered lows v low) u 0 ≡ u) ⊎ ((segment : Segment) × Contains segments segment × (segment.near ≡ get_or (lowered lows v low) u 0)
+      × IsAncestor parents u segment.far)
   reached u below (inr differs) cases was =
       let P : ℕ → Type 0 = λ n. (n ≡ u) ⊎ ((segment : Segment) × Contains segments segment × (segment.near ≡ n) × IsAncestor parents u segment.far) in
       subst P (sym (lowered_other lows v low u differs)) was
@@ -69,7 +74,8 @@ lowered_near segments lows v low inside near segment has =
     omega arith
 
 -- numbers at their own places are reached
-pub itself_reached : (parents : List (Option ℕ)) (segments : List Segment) (lows : List ℕ) → AreItself (length lows) lows → length parents ≡ length lows → AreReached parents segments lows
+pub itself_reached : (parents : List (Option ℕ)) (segments : List Segment) (lows : List ℕ) → AreItself (length lows) lows → length parents ≡ length lows
+    → AreReached parents segments lows
 itself_reached parents segments lows are same = record {
   size = sym same;
   itself = λ v below. let e = are.each v (omega arith) in omega arith;
@@ -77,12 +83,14 @@ itself_reached parents segments lows are same = record {
 }
 
 -- a segment lowers its far end
-pub segment_reached : (parents : List (Option ℕ)) (segments : List Segment) (lows : List ℕ) (segment : Segment) → segment.far < length parents → Contains segments segment → AreReached parents segments lows → AreReached parents segments (lowered lows segment.far segment.near)
+pub segment_reached : (parents : List (Option ℕ)) (segments : List Segment) (lows : List ℕ) (segment : Segment) → segment.far < length parents → Contains segments segment
+    → AreReached parents segments lows → AreReached parents segments (lowered lows segment.far segment.near)
 segment_reached parents segments lows segment inside has are =
     lowered_reached parents segments lows segment.far segment.near inside are (λ less. (segment, has, refl, ancestor_itself parents segment.far))
 
 -- a child lowers its parent
-pub child_lowered : (parents : List (Option ℕ)) (segments : List Segment) (v : ℕ) (lows : List ℕ) → ParentsFall parents → v < length parents → AreLowered parents segments (v + 1) lows → AreLowered parents segments v (parent_lowered lows (parent_of parents v) v)
+pub child_lowered : (parents : List (Option ℕ)) (segments : List Segment) (v : ℕ) (lows : List ℕ) → ParentsFall parents → v < length parents
+    → AreLowered parents segments (v + 1) lows → AreLowered parents segments v (parent_lowered lows (parent_of parents v) v)
 child_lowered parents segments v lows falls inside are = by (parent_of parents v) refl where
   within : v < length lows
   within = let e = are.are_reached.size in omega arith
@@ -107,7 +115,9 @@ child_lowered parents segments v lows falls inside are = by (parent_of parents v
     q_within : q < length lows
     q_within = omega (arith, q_below, within)
 
-    leads : get_or lows v 0 < get_or lows q 0 → (get_or lows v 0 ≡ v) ⊎ ((segment : Segment) × Contains segments segment × (segment.near ≡ get_or lows v 0) × IsAncestor parents v segment.far) → (segment : Segment) × Contains segments segment × (segment.near ≡ get_or lows v 0) × IsAncestor parents q segment.far
+    leads : get_or lows v 0 < get_or lows q 0 → (get_or lows v 0 ≡ v)
+        ⊎ ((segment : Segment) × Contains segments segment × (segment.near ≡ get_or lows v 0) × IsAncestor parents v segment.far)
+        → (segment : Segment) × Contains segments segment × (segment.near ≡ get_or lows v 0) × IsAncestor parents q segment.far
     leads less (inl itself) =
         let lower : get_or lows q 0 ≤ q = are.are_reached.itself q (omega (arith, q_below)) in
         absurd (omega (arith, q_below))
@@ -130,7 +140,8 @@ child_lowered parents segments v lows falls inside are = by (parent_of parents v
         omega arith
 
 -- up the tree numbers don't rise
-climbs_low : (parents : List (Option ℕ)) (lows : List ℕ) → ((w p : ℕ) → 0 ≤ w → parent_of parents w ≡ Some p → get_or lows p 0 ≤ get_or lows w 0) → (steps a j : ℕ) → Climbs parents steps a j → get_or lows a 0 ≤ get_or lows j 0
+climbs_low : (parents : List (Option ℕ)) (lows : List ℕ) → ((w p : ℕ) → 0 ≤ w → parent_of parents w ≡ Some p → get_or lows p 0 ≤ get_or lows w 0) → (steps a j : ℕ)
+    → Climbs parents steps a j → get_or lows a 0 ≤ get_or lows j 0
 climbs_low parents lows child zero a j same = let at = ap (λ i. get_or lows i 0) same in omega arith
 climbs_low parents lows child (suc steps) a j (q, parent, climbs) =
     let above : get_or lows a 0 ≤ get_or lows q 0 = climbs_low parents lows child steps a q climbs in
@@ -148,7 +159,8 @@ all_lowered parents segments lows are = record {
 }
 
 -- one more segment reaches its near end
-pub near_more : (segments : List Segment) (i : ℕ) (d : Segment) (lows : List ℕ) → i < length segments → (get_or segments i d).far < length lows → ReachesNear (take i segments) lows → ReachesNear (take (i + 1) segments) (lowered lows (get_or segments i d).far (get_or segments i d).near)
+pub near_more : (segments : List Segment) (i : ℕ) (d : Segment) (lows : List ℕ) → i < length segments → (get_or segments i d).far < length lows
+    → ReachesNear (take i segments) lows → ReachesNear (take (i + 1) segments) (lowered lows (get_or segments i d).far (get_or segments i d).near)
 near_more segments i d lows inside below near segment has =
     ⊎_elim
     (λ old. lowered_near (take i segments) lows (get_or segments i d).far (get_or segments i d).near below near segment old)

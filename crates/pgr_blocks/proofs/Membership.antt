@@ -32,7 +32,8 @@ one_span spans rise s t (i, i_inside, i_is) (j, j_inside, j_is) same = by (cases
       let less : int_cmp (get_or spans m f).edge (get_or spans n f).edge ≡ Less = rise m n f before inside in
       let left = ap (λ x. x.edge) m_at ∙ equal in
       let right = ap (λ x. x.edge) n_is in
-      let tied : int_cmp (get_or spans m f).edge (get_or spans n f).edge ≡ Equal = ap (λ x. int_cmp x (get_or spans n f).edge) left ∙ (ap (int_cmp f.edge) right ∙ tied_itself int_cmp_total f.edge) in
+      let tied : int_cmp (get_or spans m f).edge (get_or spans n f).edge ≡ Equal = ap (λ x. int_cmp x (get_or spans n f).edge) left
+      ∙ (ap (int_cmp f.edge) right ∙ tied_itself int_cmp_total f.edge) in
       cc
 
   by : (i < j) ⊎ (j ≤ i) → (j < i) ⊎ (i ≤ j) → s ≡ t
@@ -67,10 +68,15 @@ pub record IsMemberOf (spans : List Span) (names : List ℤ) (span : Span) (memb
   pub from_below : member.from < length names
   pub to_below : member.to < length names
   pub name : IsBlockName spans span member.component
-  pub alone : MatchBool member.alone ((other : Span) → Contains spans other → other ≢ span → InOneBlock spans span other → ⊥) ((other : Span) × Contains spans other × (other ≢ span) × InOneBlock spans span other)
+  pub alone : MatchBool member.alone ((other : Span) → Contains spans other → other ≢ span → InOneBlock spans span other → ⊥)
+      ((other : Span) × Contains spans other × (other ≢ span) × InOneBlock spans span other)
 
-module _ (spans : List Span) (rise : HaveRisingEdges spans) (names : List ℤ) (number : ℤ → ℕ) (parents : List (Option ℕ)) (forest : IsForest spans number parents) (segments : List Segment) (of_span : (s : Span) → Contains spans s → (segment : Segment) × Contains segments segment × IsSegmentOf names number s segment) (of_segment : (segment : Segment) → Contains segments segment → (s : Span) × Contains spans s × IsSegmentOf names number s segment) (members : List Member) (are : AreFound parents segments members) where
-  low : (v : ℕ) → v < length parents → (get_or are.lows v 0 ≡ v) ⊎ ((span : Span) × Contains spans span × ((rung_of number span).near ≡ get_or are.lows v 0) × IsAncestor parents v (rung_of number span).far)
+module _ (spans : List Span) (rise : HaveRisingEdges spans) (names : List ℤ) (number : ℤ → ℕ) (parents : List (Option ℕ)) (forest : IsForest spans number parents)
+    (segments : List Segment) (of_span : (s : Span) → Contains spans s → (segment : Segment) × Contains segments segment × IsSegmentOf names number s segment)
+    (of_segment : (segment : Segment) → Contains segments segment → (s : Span) × Contains spans s × IsSegmentOf names number s segment) (members : List Member)
+    (are : AreFound parents segments members) where
+  low : (v : ℕ) → v < length parents → (get_or are.lows v 0 ≡ v)
+      ⊎ ((span : Span) × Contains spans span × ((rung_of number span).near ≡ get_or are.lows v 0) × IsAncestor parents v (rung_of number span).far)
   low v inside = ⊎_elim
       (λ itself. inl itself)
       (λ (segment, has, near, under).
@@ -96,13 +102,16 @@ module _ (spans : List Span) (rise : HaveRisingEdges spans) (names : List ℤ) (
   ends_by_numbers s differ loop = differ (numbers_same s loop)
 
   -- the edge of a span whose ends differ stands under the top of its far end
-  under_has : (s : Span) (segment : Segment) → IsSegmentOf names number s segment → Contains segments segment → (rung_of number s).near ≢ (rung_of number s).far → IsUnderKey (flat_map (entry_of are.tops) segments) (get_or are.tops (rung_of number s).far 0) s.edge
+  under_has : (s : Span) (segment : Segment) → IsSegmentOf names number s segment → Contains segments segment → (rung_of number s).near ≢ (rung_of number s).far
+      → IsUnderKey (flat_map (entry_of are.tops) segments) (get_or are.tops (rung_of number s).far 0) s.edge
   under_has s segment is has differ =
       let apart : eqb segment.near segment.far ≡ false = ne_eqb segment.near segment.far (λ same. differ (sym is.near ∙ (same ∙ is.far))) in
       let entry : Entry = record { key = get_or are.tops segment.far 0; value = segment.edge } in
       let among : Contains (entry_of are.tops segment) entry = subst (λ b. Contains (cond b [] (entry ∷ [])) entry) (sym apart) (0, omega arith, refl) in
-      let there : IsUnderKey (flat_map (entry_of are.tops) segments) (get_or are.tops segment.far 0) segment.edge = Contains-flat_map (entry_of are.tops) segments segment entry has among in
-      subst (λ e. IsUnderKey (flat_map (entry_of are.tops) segments) (get_or are.tops (rung_of number s).far 0) e) is.edge (subst (λ far. IsUnderKey (flat_map (entry_of are.tops) segments) (get_or are.tops far 0) segment.edge) is.far there)
+      let there : IsUnderKey (flat_map (entry_of are.tops) segments) (get_or are.tops segment.far 0) segment.edge = Contains-flat_map
+      (entry_of are.tops) segments segment entry has among in
+      subst (λ e. IsUnderKey (flat_map (entry_of are.tops) segments) (get_or are.tops (rung_of number s).far 0) e) is.edge
+      (subst (λ far. IsUnderKey (flat_map (entry_of are.tops) segments) (get_or are.tops far 0) segment.edge) is.far there)
 
   -- what stands under a key is the edge of such a span
   record StandsFor (key : ℕ) (value : ℤ) : Type 0 where
@@ -118,7 +127,9 @@ module _ (spans : List Span) (rise : HaveRisingEdges spans) (names : List ℤ) (
       let (segment, segment_has, among) = Contains-from_flat_map (entry_of are.tops) segments entry there in
       let (s, s_has, is) = of_segment segment segment_has in
       by segment s s_has is (eqb segment.near segment.far) refl among where
-        by : (segment : Segment) (s : Span) → Contains spans s → IsSegmentOf names number s segment → (b : Bool) → eqb segment.near segment.far ≡ b → Contains {X = Entry} (cond b [] (record { key = get_or are.tops segment.far 0; value = segment.edge } ∷ [])) (record { key = key; value = value }) → StandsFor key value
+        by : (segment : Segment) (s : Span) → Contains spans s → IsSegmentOf names number s segment → (b : Bool) → eqb segment.near segment.far ≡ b
+            → Contains {X = Entry} (cond b [] (record { key = get_or are.tops segment.far 0; value = segment.edge } ∷ [])) (record { key = key; value = value })
+            → StandsFor key value
         by segment s s_has is true e (k, inside, at) = absurd (omega arith)
         by segment s s_has is false e (zero, inside, at) = record {
           span = s;
@@ -148,7 +159,8 @@ module _ (spans : List Span) (rise : HaveRisingEdges spans) (names : List ℤ) (
 
   module _ (ordered : AllPairs (λ e f. e.value ≤ℤ f.value) (flat_map (entry_of are.tops) segments)) where
     -- a span whose ends differ, by what is known under its top
-    seen_member : (s : Span) (segment : Segment) → Contains spans s → Contains segments segment → IsSegmentOf names number s segment → s.a ≢ s.b → (known : Option Seen) → IsKnown (flat_map (entry_of are.tops) segments) (get_or are.tops (rung_of number s).far 0) known → IsMemberOf spans names s (member_seen segment known)
+    seen_member : (s : Span) (segment : Segment) → Contains spans s → Contains segments segment → IsSegmentOf names number s segment → s.a ≢ s.b → (known : Option Seen)
+        → IsKnown (flat_map (entry_of are.tops) segments) (get_or are.tops (rung_of number s).far 0) known → IsMemberOf spans names s (member_seen segment known)
     seen_member s segment has segment_has is differ None none =
         absurd (none s.edge (under_has s segment is segment_has (numbers_differ s has differ)))
     seen_member s segment has segment_has is differ (Some seen) known = record {
@@ -158,7 +170,8 @@ module _ (spans : List Span) (rise : HaveRisingEdges spans) (names : List ℤ) (
       from_below = is.from_below;
       to_below = is.to_below;
       name = record {
-        member = (let first = stands_for (get_or are.tops (rung_of number s).far 0) seen.first known.first in (first.span, first.has, in_block first.span first.has first.differ first.top, first.edge));
+        member = (let first = stands_for (get_or are.tops (rung_of number s).far 0) seen.first
+            known.first in (first.span, first.has, in_block first.span first.has first.differ first.top, first.edge));
         least = λ other other_has block. known.least ordered other.edge (under other other_has block);
       };
       alone = alone seen.same known.others;
@@ -166,7 +179,8 @@ module _ (spans : List Span) (rise : HaveRisingEdges spans) (names : List ℤ) (
       s_differ : (rung_of number s).near ≢ (rung_of number s).far
       s_differ = numbers_differ s has differ
 
-      in_block : (t : Span) → Contains spans t → (rung_of number t).near ≢ (rung_of number t).far → get_or are.tops (rung_of number t).far 0 ≡ get_or are.tops (rung_of number s).far 0 → InOneBlock spans s t
+      in_block : (t : Span) → Contains spans t → (rung_of number t).near ≢ (rung_of number t).far
+          → get_or are.tops (rung_of number t).far 0 ≡ get_or are.tops (rung_of number s).far 0 → InOneBlock spans s t
       in_block t t_has t_differ top =
           block_by_top spans number parents forest are.lows are.tops low least are.are_tops.each s t has t_has s_differ t_differ (sym top)
 
@@ -177,7 +191,10 @@ module _ (spans : List Span) (rise : HaveRisingEdges spans) (names : List ℤ) (
           let top = top_by_block spans number parents forest are.lows are.tops low least are.are_tops.each s t has t_has s_differ (numbers_differ t t_has t_differ) block in
           subst (λ key. IsUnderKey (flat_map (entry_of are.tops) segments) key t.edge) (sym top) (under_has t t_segment t_is t_segment_has (numbers_differ t t_has t_differ))
 
-      alone : (same : Bool) → MatchBool same ((value : ℤ) → IsUnderKey (flat_map (entry_of are.tops) segments) (get_or are.tops (rung_of number s).far 0) value → value ≡ seen.first) ((value : ℤ) × IsUnderKey (flat_map (entry_of are.tops) segments) (get_or are.tops (rung_of number s).far 0) value × (value ≢ seen.first)) → MatchBool same ((other : Span) → Contains spans other → other ≢ s → InOneBlock spans s other → ⊥) ((other : Span) × Contains spans other × (other ≢ s) × InOneBlock spans s other)
+      alone : (same : Bool) → MatchBool same ((value : ℤ) → IsUnderKey (flat_map (entry_of are.tops) segments) (get_or are.tops (rung_of number s).far 0) value
+          → value ≡ seen.first) ((value : ℤ) × IsUnderKey (flat_map (entry_of are.tops) segments) (get_or are.tops (rung_of number s).far 0) value × (value ≢ seen.first))
+          → MatchBool same ((other : Span) → Contains spans other → other ≢ s → InOneBlock spans s other → ⊥)
+          ((other : Span) × Contains spans other × (other ≢ s) × InOneBlock spans s other)
       alone true all = λ other other_has differs block.
           differs (one_span spans rise other s other_has has (all other.edge (under other other_has block) ∙ sym (all s.edge (under s has (inl refl)))))
       alone false (value, there, not) =
@@ -189,12 +206,14 @@ module _ (spans : List Span) (rise : HaveRisingEdges spans) (names : List ℤ) (
           (cases_id s.edge seen.first)
 
     -- the member of a segment is that of its span
-    segment_member : (s : Span) (segment : Segment) → Contains spans s → Contains segments segment → IsSegmentOf names number s segment → IsMemberOf spans names s (member_of are.tops are.found segment)
+    segment_member : (s : Span) (segment : Segment) → Contains spans s → Contains segments segment → IsSegmentOf names number s segment
+        → IsMemberOf spans names s (member_of are.tops are.found segment)
     segment_member s segment has segment_has is = by (cases_id s.a s.b) where
       by : (s.a ≡ s.b) ⊎ (s.a ≢ s.b) → IsMemberOf spans names s (member_of are.tops are.found segment)
       by (inl loop) =
           let same : eqb segment.near segment.far ≡ true = eq-eqb segment.near segment.far (is.near ∙ (numbers_same s loop ∙ sym is.far)) in
-          subst (λ b. IsMemberOf spans names s (member_seen segment (cond b None (get_or are.found (get_or are.tops segment.far 0) None)))) (sym same) (loop_member s segment has is loop)
+          subst (λ b. IsMemberOf spans names s (member_seen segment (cond b None (get_or are.found (get_or are.tops segment.far 0) None)))) (sym same)
+          (loop_member s segment has is loop)
       by (inr differ) =
           let apart : eqb segment.near segment.far ≡ false = ne_eqb segment.near segment.far (λ same. numbers_differ s has differ (sym is.near ∙ (same ∙ is.far))) in
           let far_below : (rung_of number s).far < length parents = forest.below s has in

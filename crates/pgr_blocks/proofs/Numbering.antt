@@ -28,9 +28,12 @@ place_of (x ∷ xs) y = cond (int_eq x y) 0 (suc (place_of xs y))
 place_is : (names : List ℤ) (y : ℤ) → Contains names y → (place_of names y < length names) × (get_or names (place_of names y) (pos 0) ≡ y)
 place_is [] y (k, inside, is) = absurd (omega arith)
 place_is (x ∷ xs) y (k, inside, is) = by (int_eq x y) refl k inside is (λ n below at. place_is xs y (n, below, at)) where
-  by : (b : Bool) → int_eq x y ≡ b → (n : ℕ) → n < length (x ∷ xs) → get_or (x ∷ xs) n y ≡ y → ((n : ℕ) → n < length xs → get_or xs n y ≡ y → (place_of xs y < length xs) × (get_or xs (place_of xs y) (pos 0) ≡ y)) → (place_of (x ∷ xs) y < length (x ∷ xs)) × (get_or (x ∷ xs) (place_of (x ∷ xs) y) (pos 0) ≡ y)
+  by : (b : Bool) → int_eq x y ≡ b → (n : ℕ) → n < length (x ∷ xs) → get_or (x ∷ xs) n y ≡ y
+      → ((n : ℕ) → n < length xs → get_or xs n y ≡ y → (place_of xs y < length xs) × (get_or xs (place_of xs y) (pos 0) ≡ y))
+      → (place_of (x ∷ xs) y < length (x ∷ xs)) × (get_or (x ∷ xs) (place_of (x ∷ xs) y) (pos 0) ≡ y)
   by true e n below at on =
-      subst (λ b. (cond b 0 (suc (place_of xs y)) < length (x ∷ xs)) × (get_or (x ∷ xs) (cond b 0 (suc (place_of xs y))) (pos 0) ≡ y)) (sym e) (omega arith, (signed_Decides x y).0 e)
+      subst (λ b. (cond b 0 (suc (place_of xs y)) < length (x ∷ xs)) × (get_or (x ∷ xs) (cond b 0 (suc (place_of xs y))) (pos 0) ≡ y)) (sym e)
+      (omega arith, (signed_Decides x y).0 e)
   by false e zero below at on = absurd (both_ways (int_eq x y) e ((signed_Decides x y).1 at))
   by false e (suc n) below at on =
       let found = on n (omega arith) at in
@@ -74,7 +77,8 @@ same_rung : (rung : Rung) (near far : ℕ) → rung.near ≡ near → rung.far �
 same_rung rung near far near_is far_is =
     ap (λ n. record rung { near = n }) near_is ∙ ap (λ n. record rung { near = near; far = n }) far_is
 
-module _ (spans : List Span) (names : List ℤ) (links : List (LinkOf ℕ)) (arrows : List Arrow) (numbers parents : List (Option ℕ)) (numbered : AreNumbered names (map link_of spans) links) (both : AreArrows (length names) links arrows) (search : IsDepthFirst (length names) arrows numbers parents) where
+module _ (spans : List Span) (names : List ℤ) (links : List (LinkOf ℕ)) (arrows : List Arrow) (numbers parents : List (Option ℕ))
+    (numbered : AreNumbered names (map link_of spans) links) (both : AreArrows (length names) links arrows) (search : IsDepthFirst (length names) arrows numbers parents) where
   -- the link of a span
   link_of_span : (s : Span) → Contains spans s → (link : LinkOf ℕ) × Contains links link × (link_of s ≡ named names link)
   link_of_span s has =
@@ -112,12 +116,14 @@ module _ (spans : List Span) (names : List ℤ) (links : List (LinkOf ℕ)) (arr
         far = ap (λ n. max n (number_of numbers link.to)) (sym a) ∙ ap (λ n. max (numbering names numbers s.a) n) (sym b);
       }
 
-  pub segment_of_span : (s : Span) → Contains spans s → (segment : Segment) × Contains (map (segment_by numbers) links) segment × IsSegmentOf names (numbering names numbers) s segment
+  pub segment_of_span : (s : Span) → Contains spans s → (segment : Segment) × Contains (map (segment_by numbers) links) segment
+      × IsSegmentOf names (numbering names numbers) s segment
   segment_of_span s has =
       let (link, link_has, same) = link_of_span s has in
       (segment_by numbers link, Contains-map (segment_by numbers) links link link_has, link_is_segment s link link_has (sym same))
 
-  pub span_of_segment : (segment : Segment) → Contains (map (segment_by numbers) links) segment → (s : Span) × Contains spans s × IsSegmentOf names (numbering names numbers) s segment
+  pub span_of_segment : (segment : Segment) → Contains (map (segment_by numbers) links) segment
+      → (s : Span) × Contains spans s × IsSegmentOf names (numbering names numbers) s segment
   span_of_segment segment has =
       let (link, link_has, is) = Contains-from_map (segment_by numbers) links segment has in
       let (s, s_has, same) = span_of_link link link_has in
@@ -156,7 +162,8 @@ module _ (spans : List Span) (names : List ℤ) (links : List (LinkOf ℕ)) (arr
       subst (λ n. n < length parents) (sym at.numbering_is) (search.numbering.below at.place at.number at.is_number)
 
   -- where two ends of a link are related, so are the numbers of its span
-  near_of : (s : Span) (i j : ℕ) → numbering names numbers s.a ≡ i → numbering names numbers s.b ≡ j → AreRelated parents i j → IsAncestor parents (rung_of (numbering names numbers) s).near (rung_of (numbering names numbers) s).far
+  near_of : (s : Span) (i j : ℕ) → numbering names numbers s.a ≡ i → numbering names numbers s.b ≡ j → AreRelated parents i j
+      → IsAncestor parents (rung_of (numbering names numbers) s).near (rung_of (numbering names numbers) s).far
   near_of s i j a b (inl up) =
       let le : i ≤ j = ancestor_le parents search.numbering.falls i j up in
       let near : min (numbering names numbers s.a) (numbering names numbers s.b) ≡ i = omega arith in

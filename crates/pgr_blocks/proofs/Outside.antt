@@ -77,7 +77,8 @@ module _ (Has : Span → Type 0) (Linked : Span → Span → Type 0) where
       (back.0 ++ e ∷ [], leads_append f next e back.0 (e ∷ []) back.1 (has, turn e next leads.1, refl))
 
 -- a list over a set leads so over a larger set with more links
-pub leads_weaker : (Has Some : Span → Type 0) (Linked Joined : Span → Span → Type 0) → ((s : Span) → Has s → Some s) → ((s t : Span) → Has t → Linked s t → Joined s t) → (e f : Span) (xs : List Span) → LeadsOn Has Linked e xs f → LeadsOn Some Joined e xs f
+pub leads_weaker : (Has Some : Span → Type 0) (Linked Joined : Span → Span → Type 0) → ((s : Span) → Has s → Some s) → ((s t : Span) → Has t → Linked s t → Joined s t)
+    → (e f : Span) (xs : List Span) → LeadsOn Has Linked e xs f → LeadsOn Some Joined e xs f
 leads_weaker Has Some Linked Joined some joined e f [] leads = leads
 leads_weaker Has Some Linked Joined some joined e f (next ∷ rest) leads =
     (some next leads.0, joined e next leads.0 leads.1, leads_weaker Has Some Linked Joined some joined next f rest leads.2)

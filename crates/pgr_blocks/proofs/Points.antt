@@ -25,7 +25,8 @@ module _ (spans : List Span) (x : ℤ) where
   joins_ends e u v without u_end v_end = record { first = e; rest = []; last = e; has = without; from = u_end; leads = refl; to = v_end }
 
   -- from a list that is linked outside x, what lacks x is kept: it joins the ends other than x
-  pub joins_beside : (e f : Span) (xs : List Span) (u v : ℤ) → Contains spans e → LeadsOn (Contains spans) (ShareAnEndBeside x) e xs f → HasEnd e u → u ≢ x → HasEnd f v → v ≢ x → (u ≡ v) ⊎ Joins (IsSpanWithout spans x) u v
+  pub joins_beside : (e f : Span) (xs : List Span) (u v : ℤ) → Contains spans e → LeadsOn (Contains spans) (ShareAnEndBeside x) e xs f → HasEnd e u → u ≢ x → HasEnd f v → v ≢ x
+      → (u ≡ v) ⊎ Joins (IsSpanWithout spans x) u v
   joins_beside e f [] u v has leads u_end u_not v_end v_not = by (cases_end e x) where
     v_here : HasEnd e v
     v_here = subst (λ s. HasEnd s v) (sym leads) v_end
@@ -44,10 +45,12 @@ module _ (spans : List Span) (x : ℤ) where
   -- a list of spans that lack x is linked outside x
   leads_beside : (e f : Span) (xs : List Span) → LeadsOn (IsSpanWithout spans x) ShareAnEnd e xs f → LeadsOn (Contains spans) (ShareAnEndBeside x) e xs f
   leads_beside =
-      leads_weaker (IsSpanWithout spans x) (Contains spans) ShareAnEnd (ShareAnEndBeside x) (λ s without. without.0) (λ s t without (y, s_end, t_end). (y, λ same. without.1 (subst (HasEnd t) same t_end), s_end, t_end))
+      leads_weaker (IsSpanWithout spans x) (Contains spans) ShareAnEnd (ShareAnEndBeside x) (λ s without. without.0)
+      (λ s t without (y, s_end, t_end). (y, λ same. without.1 (subst (HasEnd t) same t_end), s_end, t_end))
 
   -- two spans with the end x, no loops, that are in two blocks: their other ends are parted by x
-  pub point_between : (e f : Span) → Contains spans e → Contains spans f → HasEnd e x → HasEnd f x → e.a ≢ e.b → f.a ≢ f.b → (InOneBlock spans e f → ⊥) → IsArticulationPoint spans x
+  pub point_between : (e f : Span) → Contains spans e → Contains spans f → HasEnd e x → HasEnd f x → e.a ≢ e.b → f.a ≢ f.b → (InOneBlock spans e f → ⊥)
+      → IsArticulationPoint spans x
   point_between e f e_has f_has e_at f_at e_differs f_differs apart =
       let (u, u_end, u_not) = end_beside e x e_at e_differs in
       let (v, v_end, v_not) = end_beside f x f_at f_differs in (
@@ -67,18 +70,21 @@ module _ (spans : List Span) (x : ℤ) where
 
   module _ (linked : (e f : Span) → Contains spans e → Contains spans f → HasEnd e x → HasEnd f x → e.a ≢ e.b → f.a ≢ f.b → LinkedOutside spans x e f) where
     -- a loop at x is left out of a list: those before and behind it have x too
-    leave_out : (g next t : Span) (rest : List Span) → next.a ≡ next.b → HasEnd next x → HasEnd g x → (HasEnd t x → t.a ≢ t.b) → LeadsOn (Contains spans) ShareAnEnd next rest t → LeadsOn (Contains spans) ShareAnEnd g rest t
+    leave_out : (g next t : Span) (rest : List Span) → next.a ≡ next.b → HasEnd next x → HasEnd g x → (HasEnd t x → t.a ≢ t.b) → LeadsOn (Contains spans) ShareAnEnd next rest t
+        → LeadsOn (Contains spans) ShareAnEnd g rest t
     leave_out g next t [] loop at g_at t_no leads =
         absurd (t_no (subst (λ s. HasEnd s x) leads at) (subst (λ s. s.a ≡ s.b) leads loop))
     leave_out g next t (other ∷ rest) loop at g_at t_no (has, (z, z_next, z_other), leads) =
         (has, (x, g_at, subst (HasEnd other) (loop_end next x z loop at z_next) z_other), leads)
 
     -- where the spans at x are linked outside x, a list of spans that begins and ends with no loop at x can be linked so
-    outside_around : (g t : Span) (xs : List Span) → Contains spans g → (HasEnd g x → g.a ≢ g.b) → (HasEnd t x → t.a ≢ t.b) → LeadsOn (Contains spans) ShareAnEnd g xs t → LinkedOutside spans x g t
+    outside_around : (g t : Span) (xs : List Span) → Contains spans g → (HasEnd g x → g.a ≢ g.b) → (HasEnd t x → t.a ≢ t.b) → LeadsOn (Contains spans) ShareAnEnd g xs t
+        → LinkedOutside spans x g t
     outside_around g t [] g_has g_no t_no leads = ([], leads)
     outside_around g t (next ∷ rest) g_has g_no t_no (has, (y, y_g, y_next), leads) =
         by (λ next_no. outside_around next t rest has next_no t_no leads) (λ around. outside_around g t rest g_has g_no t_no around) (cases_id y x) (cases_id next.a next.b) where
-          by : ((HasEnd next x → next.a ≢ next.b) → LinkedOutside spans x next t) → (LeadsOn (Contains spans) ShareAnEnd g rest t → LinkedOutside spans x g t) → (y ≡ x) ⊎ (y ≢ x) → (next.a ≡ next.b) ⊎ (next.a ≢ next.b) → LinkedOutside spans x g t
+          by : ((HasEnd next x → next.a ≢ next.b) → LinkedOutside spans x next t) → (LeadsOn (Contains spans) ShareAnEnd g rest t → LinkedOutside spans x g t) → (y ≡ x) ⊎ (y ≢ x)
+              → (next.a ≡ next.b) ⊎ (next.a ≢ next.b) → LinkedOutside spans x g t
           by on around (inr not) loop =
               outside_trans spans x g next t (outside_step spans x g next has (y, not, y_g, y_next)) (on (λ at is_loop. not (loop_end next x y is_loop at y_next)))
           by on around (inl same) (inr differs) =
@@ -91,5 +97,6 @@ module _ (spans : List Span) (x : ℤ) where
     pub no_point : IsArticulationPoint spans x → ⊥
     no_point (u, v, differ, u_not, v_not, joins, parted) =
         let last_has = leads_last (Contains spans) ShareAnEnd joins.first joins.last joins.rest joins.has joins.leads in
-        let around = outside_around joins.first joins.last joins.rest joins.has (λ at loop. u_not (loop_end joins.first x u loop at joins.from)) (λ at loop. v_not (loop_end joins.last x v loop at joins.to)) joins.leads in
+        let around = outside_around joins.first joins.last joins.rest joins.has (λ at loop. u_not (loop_end joins.first x u loop at joins.from))
+        (λ at loop. v_not (loop_end joins.last x v loop at joins.to)) joins.leads in
         ⊎_elim differ parted (joins_beside joins.first joins.last around.0 u v joins.has around.1 joins.from u_not joins.to v_not)

@@ -23,7 +23,8 @@ three_parts : {X : Type 0} (xs : List X) (first count : ℕ) → take first xs +
 three_parts xs first count = ap (λ ys. take first xs ++ ys) (take-append-drop count (drop first xs)) ∙ take-append-drop first xs
 
 -- a filter of three parts of which the middle passes and the others don't leaves the middle
-filter_middle : {X : Type 0} (p : X → Bool) (front middle back : List X) → All (λ x. p x ≡ false) front → All (λ x. p x ≡ true) middle → All (λ x. p x ≡ false) back → filter p (front ++ (middle ++ back)) ≡ middle
+filter_middle : {X : Type 0} (p : X → Bool) (front middle back : List X) → All (λ x. p x ≡ false) front → All (λ x. p x ≡ true) middle → All (λ x. p x ≡ false) back
+    → filter p (front ++ (middle ++ back)) ≡ middle
 filter_middle p front middle back f m b =
     let front_none = filter_none p front f in
     let middle_all = filter_all p middle m in
@@ -40,7 +41,9 @@ below_differs x v low = grind (arith, nat_tests)
 above_differs : (x v : ℕ) → leb x v ≡ false → eqb x v ≡ false
 above_differs x v high = grind (arith, nat_tests)
 
-module _ {X : Type 0} (key : X → ℕ) (xs : List X) (v first count : ℕ) (low : IsPartitionPoint (λ x. ltb (key x) v ≡ true) (λ x. ltb (key x) v ≡ false) xs first) (high : IsPartitionPoint (λ x. leb (key x) v ≡ true) (λ x. leb (key x) v ≡ false) (drop first xs) count) (first_inside : first ≤ length xs) (count_inside : count ≤ length (drop first xs)) where
+module _ {X : Type 0} (key : X → ℕ) (xs : List X) (v first count : ℕ) (low : IsPartitionPoint (λ x. ltb (key x) v ≡ true) (λ x. ltb (key x) v ≡ false) xs first)
+    (high : IsPartitionPoint (λ x. leb (key x) v ≡ true) (λ x. leb (key x) v ≡ false) (drop first xs) count) (first_inside : first ≤ length xs)
+    (count_inside : count ≤ length (drop first xs)) where
   front_differs : All (λ x. eqb (key x) v ≡ false) (take first xs)
   front_differs k d inside =
       let size = length-take first xs in
@@ -63,4 +66,5 @@ module _ {X : Type 0} (key : X → ℕ) (xs : List X) (v first count : ℕ) (low
   -- the elements between are those with the key v
   pub run_is : take count (drop first xs) ≡ filter (λ x. eqb (key x) v) xs
   run_is =
-      sym (ap (filter (λ x. eqb (key x) v)) (sym (three_parts xs first count)) ∙ filter_middle (λ x. eqb (key x) v) (take first xs) (take count (drop first xs)) (drop count (drop first xs)) front_differs middle_same back_differs)
+      sym (ap (filter (λ x. eqb (key x) v)) (sym (three_parts xs first count))
+      ∙ filter_middle (λ x. eqb (key x) v) (take first xs) (take count (drop first xs)) (drop count (drop first xs)) front_differs middle_same back_differs)

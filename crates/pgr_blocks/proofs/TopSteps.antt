@@ -12,7 +12,8 @@ use Rattle.pgr_blocks.specs.Segment.{top_by, IsSegmentBelow}
 use Rattle.pgr_blocks.specs.Member.{entry_of}
 use Rattle.pgr_blocks.proofs.Lists.{Contains-from_flat_map}
 
-module _ (parents : List (Option ℕ)) (lows tops : List ℕ) (v top : ℕ) (falls : ParentsFall parents) (size : length tops ≡ v) (is : top ≡ top_by tops v (parent_of parents v) (get_or lows v 0)) where
+module _ (parents : List (Option ℕ)) (lows tops : List ℕ) (v top : ℕ) (falls : ParentsFall parents) (size : length tops ≡ v)
+    (is : top ≡ top_by tops v (parent_of parents v) (get_or lows v 0)) where
   before : (u : ℕ) → u < v → get_or (tops ++ top ∷ []) u 0 ≡ get_or tops u 0
   before u less = get_or_append_left tops (top ∷ []) 0 u (omega arith)
 
@@ -73,13 +74,15 @@ module _ (parents : List (Option ℕ)) (lows tops : List ℕ) (v top : ℕ) (fal
       (cases_eq u v)
 
 -- the keys of the entries are below the size
-pub keys_below : (size : ℕ) (tops : List ℕ) (segments : List Segment) → All (IsSegmentBelow size) segments → ((v : ℕ) → v < size → get_or tops v 0 ≤ v) → (entries : List Entry) → entries ≡ flat_map (entry_of tops) segments → All (λ entry. entry.key < size) entries
+pub keys_below : (size : ℕ) (tops : List ℕ) (segments : List Segment) → All (IsSegmentBelow size) segments → ((v : ℕ) → v < size → get_or tops v 0 ≤ v) → (entries : List Entry)
+    → entries ≡ flat_map (entry_of tops) segments → All (λ entry. entry.key < size) entries
 keys_below size tops segments below least entries are k d inside =
     let there : Contains (flat_map (entry_of tops) segments) (get_or entries k d) = subst (λ es. Contains es (get_or entries k d)) are (Contains-get_or entries k d inside) in
     let (segment, has, among) = Contains-from_flat_map (entry_of tops) segments (get_or entries k d) there in
     let bounds : IsSegmentBelow size segment = All-contains (IsSegmentBelow size) segments segment below has in
     by segment (get_or entries k d) bounds (eqb segment.near segment.far) among where
-      by : (segment : Segment) (entry : Entry) → IsSegmentBelow size segment → (b : Bool) → Contains (cond b [] (record { key = get_or tops segment.far 0; value = segment.edge } ∷ [])) entry → entry.key < size
+      by : (segment : Segment) (entry : Entry) → IsSegmentBelow size segment → (b : Bool)
+          → Contains (cond b [] (record { key = get_or tops segment.far 0; value = segment.edge } ∷ [])) entry → entry.key < size
       by segment entry bounds true (n, within, is) = absurd (omega arith)
       by segment entry bounds false (zero, within, is) =
           let key = ap (λ e. e.key) is in

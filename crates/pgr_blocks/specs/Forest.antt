@@ -42,7 +42,8 @@ pub record IsForest (spans : List Span) (number : ℤ → ℕ) (parents : List (
 pub record AreReached (parents : List (Option ℕ)) (segments : List Segment) (lows : List ℕ) : Type 0 where
   pub size : length lows ≡ length parents
   pub itself : (v : ℕ) → v < length parents → slice_index_or lows v 0 ≤ v
-  pub reached : (v : ℕ) → v < length parents → (slice_index_or lows v 0 ≡ v) ⊎ ((segment : Segment) × Contains segments segment × (segment.near ≡ slice_index_or lows v 0) × IsAncestor parents v segment.far)
+  pub reached : (v : ℕ) → v < length parents → (slice_index_or lows v 0 ≡ v)
+      ⊎ ((segment : Segment) × Contains segments segment × (segment.near ≡ slice_index_or lows v 0) × IsAncestor parents v segment.far)
 
 -- the low point of each vertex: the least number that a segment from the vertex or from below it leads to, or the vertex itself
 pub record AreLowPoints (parents : List (Option ℕ)) (segments : List Segment) (lows : List ℕ) : Type 0 where

@@ -24,4 +24,5 @@ pub record AreArrows (size : ℕ) (links : List (LinkOf ℕ)) (arrows : List Arr
   pub below : All (HasPlacesBelow size) arrows
   pub back : AreBothWays arrows
   pub along : (link : LinkOf ℕ) → Contains links link → Contains arrows (record { from = link.from; to = link.to })
-  pub only : (v w : ℕ) → Contains arrows (record { from = v; to = w }) → (link : LinkOf ℕ) × Contains links link × (((link.from ≡ v) × (link.to ≡ w)) ⊎ ((link.from ≡ w) × (link.to ≡ v)))
+  pub only : (v w : ℕ) → Contains arrows (record { from = v; to = w })
+      → (link : LinkOf ℕ) × Contains links link × (((link.from ≡ v) × (link.to ≡ w)) ⊎ ((link.from ≡ w) × (link.to ≡ v)))

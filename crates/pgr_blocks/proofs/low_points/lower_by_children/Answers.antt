@@ -15,7 +15,9 @@ loop-v-preserved c =
       within = omega arith;
       same_length = omega arith;
       done = λ segments reached near.
-          subst (AreLowered parents segments (v - 1)) (sym c.lower_parent.ensures) (child_lowered parents segments (v - 1) c.loop-v.lows c.requires.falls inside (subst (λ n. AreLowered parents segments n c.loop-v.lows) back (c.loop-v.invariant.done segments reached near)));
+          subst (AreLowered parents segments (v - 1)) (sym c.lower_parent.ensures)
+          (child_lowered parents segments (v - 1) c.loop-v.lows c.requires.falls inside
+          (subst (λ n. AreLowered parents segments n c.loop-v.lows) back (c.loop-v.invariant.done segments reached near)));
     }
 
 pub returns : goal.returns

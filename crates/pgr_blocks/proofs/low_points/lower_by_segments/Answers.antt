@@ -22,8 +22,11 @@ loop-segment-preserved c =
     record {
       same_length = omega arith;
       reached = λ parents same.
-          subst (AreReached parents segments) (sym c.lower.ensures) (segment_reached parents segments c.loop-segment.lows (get_or segments i none) (omega (arith, below.1)) (Contains-get_or segments i none inside) (c.loop-segment.invariant.reached parents same));
-      near = subst (ReachesNear (take (i + 1) segments)) (sym c.lower.ensures) (near_more segments i none c.loop-segment.lows inside (omega (arith, below.1)) c.loop-segment.invariant.near);
+          subst (AreReached parents segments) (sym c.lower.ensures)
+          (segment_reached parents segments c.loop-segment.lows (get_or segments i none) (omega (arith, below.1)) (Contains-get_or segments i none inside)
+          (c.loop-segment.invariant.reached parents same));
+      near = subst (ReachesNear (take (i + 1) segments)) (sym c.lower.ensures)
+          (near_more segments i none c.loop-segment.lows inside (omega (arith, below.1)) c.loop-segment.invariant.near);
     }
 
 pub returns-clause-near : goal.returns-clause-near

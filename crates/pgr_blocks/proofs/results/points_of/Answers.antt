@@ -15,12 +15,15 @@ loop-v-preserved c =
       | then-is_parting+in_ok-map_err w ↦
           let items : c.if-is_parting.points.items ≡ c.loop-v.points.items ++ w.name.result ∷ [] = search rules in
           let pushed : c.if-is_parting.points.items ≡ c.loop-v.points.items ++ id_at names v ∷ [] = items ∙ ap (λ x. c.loop-v.points.items ++ x ∷ []) w.name.ensures.id in
-          subst (ArePointsUpTo names found (v + 1)) (sym pushed) (points_push names found v c.loop-v.points.items c.len-v-end.ensures.rise inside (sym c.is_parting.ensures ∙ w.if-is_parting.true) c.loop-v.invariant)
+          subst (ArePointsUpTo names found (v + 1)) (sym pushed)
+          (points_push names found v c.loop-v.points.items c.len-v-end.ensures.rise inside (sym c.is_parting.ensures ∙ w.if-is_parting.true) c.loop-v.invariant)
       | else-is_parting w ↦
           let items : c.if-is_parting.points.items ≡ c.loop-v.points.items = search rules in
-          subst (ArePointsUpTo names found (v + 1)) (sym items) (points_skip names found v c.loop-v.points.items (sym c.is_parting.ensures ∙ w.if-is_parting.false) c.loop-v.invariant)
+          subst (ArePointsUpTo names found (v + 1)) (sym items)
+          (points_skip names found v c.loop-v.points.items (sym c.is_parting.ensures ∙ w.if-is_parting.false) c.loop-v.invariant)
     ]
 
 pub returns : goal.returns
 returns c =
-    points_all c.args.names.now c.args.found.now c.loop-v.v c.loop-v.points.items (let e = c.len-v-end.ensures.len in let le = c.loop-v.auto.v-end in let t = c.loop-v-test.false in omega arith) c.loop-v.invariant
+    points_all c.args.names.now c.args.found.now c.loop-v.v c.loop-v.points.items
+    (let e = c.len-v-end.ensures.len in let le = c.loop-v.auto.v-end in let t = c.loop-v-test.false in omega arith) c.loop-v.invariant

@@ -9,4 +9,5 @@ pub returns : goal.returns
 returns c =
     let search = c.loop-lead.search in
     let empty : search.leads.items ≡ [] = nil_from_length search.leads.items (omega (arith, c.in_default.ensures.cases.0, search.leads.ok.0)) in
-    explored_all c.args.size c.args.arrows.now search.numbers.items search.parents.items (subst (IsExploring c.args.size c.args.arrows.now search.numbers.items search.parents.items) empty c.loop-lead.invariant)
+    explored_all c.args.size c.args.arrows.now search.numbers.items search.parents.items
+    (subst (IsExploring c.args.size c.args.arrows.now search.numbers.items search.parents.items) empty c.loop-lead.invariant)

@@ -18,5 +18,6 @@ loop-entry-preserved c =
     let found = c.loop-entry.found.items in
     let new = c.note.new.found in
     let kept = written c.as_mut_slice.result.now new found c.loop-entry.found.len c.as_mut_slice.ensures.value c.as_mut_slice.ensures.len c.note.auto.found in
-    let noted = noted_more c.args.size entries i none c.as_mut_slice.result.now found new inside c.as_mut_slice.ensures.value c.note.ensures (c.requires i none inside) c.loop-entry.invariant in
+    let noted = noted_more c.args.size entries i none c.as_mut_slice.result.now found new inside c.as_mut_slice.ensures.value c.note.ensures
+    (c.requires i none inside) c.loop-entry.invariant in
     subst (AreSeen c.args.size (take (i + 1) entries)) (sym kept) noted
