@@ -12,6 +12,10 @@ pub enum Function {
     DijkstraCost,
     /// `pgr_dijkstraCostMatrix`: the costs of least routes between all of some vertices.
     DijkstraCostMatrix,
+    /// `pgr_connectedComponents`: the connected classes of the vertices.
+    ConnectedComponents,
+    /// `pgr_strongComponents`: the strongly connected classes of the vertices.
+    StrongComponents,
 }
 
 /// The options of a function that asks for pairs, in the order in which needed ones are looked for.
@@ -23,6 +27,9 @@ const PAIR_OPTIONS: [OptionName; 5] = [
     OptionName::Directed,
 ];
 
+/// The options of a function that asks for classes of all vertices.
+const COMPONENT_OPTIONS: [OptionName; 1] = [OptionName::Edges];
+
 /// The options of a function that asks for all pairs of one list, in the same order.
 const MATRIX_OPTIONS: [OptionName; 3] = [OptionName::Edges, OptionName::Vids, OptionName::Directed];
 
@@ -32,6 +39,8 @@ impl Function {
         ensures { option_map (λ called. (called.0, called.1.now)) result ≡ function_named name.now }
     {
         match name {
+            "pgr_connectedComponents" => Some((Function::ConnectedComponents, &COMPONENT_OPTIONS)),
+            "pgr_strongComponents" => Some((Function::StrongComponents, &COMPONENT_OPTIONS)),
             "pgr_dijkstra" => Some((Function::Dijkstra, &PAIR_OPTIONS)),
             "pgr_dijkstraCost" => Some((Function::DijkstraCost, &PAIR_OPTIONS)),
             "pgr_dijkstraCostMatrix" => Some((Function::DijkstraCostMatrix, &MATRIX_OPTIONS)),
