@@ -4,8 +4,9 @@ use Rattle.std.specs.Fmt.{signed_decimal}
 use Rattle.pgr_rows.specs.Layout.{Layout, table_text}
 use Rattle.pgr_rows.specs.declared.rows.PathRow.{PathRow}
 use Rattle.pgr_rows.specs.declared.rows.CostRow.{CostRow}
+use Rattle.pgr_rows.specs.declared.rows.PartRow.{PartRow}
 use Rattle.pgr_rows.specs.declared.rows.Rows.{Rows}
-use Rattle.pgr_rows.specs.declared.rows.Rows.TheVariants.{Paths, Costs}
+use Rattle.pgr_rows.specs.declared.rows.Rows.TheVariants.{Paths, Parts, Costs}
 
 -- rows of paths
 abbrev pub paths : Layout PathRow
@@ -23,6 +24,13 @@ paths = record {
       ∷ [];
 }
 
+-- rows of components
+abbrev pub parts : Layout PartRow
+parts = record {
+  header = codes "seq,component,node\n";
+  fields = λ row. decimal row.seq ∷ signed_decimal row.component ∷ signed_decimal row.node ∷ [];
+}
+
 -- rows of costs
 abbrev pub costs : Layout CostRow
 costs = record {
@@ -33,4 +41,5 @@ costs = record {
 -- the text of a table
 abbrev pub text_of : Rows → List ℕ
 text_of (Paths rows) = table_text paths rows
+text_of (Parts rows) = table_text parts rows
 text_of (Costs rows) = table_text costs rows

@@ -83,11 +83,46 @@ impl Record for CostRow {
     }
 }
 
+/// A row of a table of components: one vertex and the name of its class.
+#[derive(Clone, Copy, Debug, PartialEq, Eq)]
+pub struct PartRow {
+    /// The number of the row in the table, from 1.
+    pub seq: u64,
+    /// The least vertex of the class.
+    pub component: i64,
+    /// The vertex.
+    pub node: i64,
+}
+
+impl Record for PartRow {
+    ghost use Rattle.pgr_rows.specs.Text.{parts};
+
+    ghost layout = { parts };
+
+    fn header() -> &'static str {
+        "seq,component,node\n"
+    }
+
+    fn gather<O: Sink>(&self, out: &mut O, piece: &mut Piece) -> Result<(), Failed> {
+        gather_line(
+            out,
+            piece,
+            &[
+                Part::Number(self.seq),
+                Part::Signed(self.component),
+                Part::Signed(self.node),
+            ],
+        )
+    }
+}
+
 /// The rows of a result table, with one variant for each kind of table.
 #[derive(Debug, Drop)]
 pub enum Rows {
     /// Paths, of the columns `seq,path_seq,start_vid,end_vid,node,edge,cost,agg_cost`.
     Paths(Listed<PathRow>),
+    /// Components, of the columns `seq,component,node`.
+    Parts(Listed<PartRow>),
     /// Costs, of the columns `start_vid,end_vid,agg_cost`.
     Costs(Listed<CostRow>),
 }

@@ -22,6 +22,7 @@ pub fn write_table<O: Sink>(out: &mut O, rows: &Rows) -> Result<(), Failed>
 {
     match rows {
         Rows::Paths(rows) => write_records(out, rows),
+        Rows::Parts(rows) => write_records(out, rows),
         Rows::Costs(rows) => write_records(out, rows),
     }
 }
@@ -56,7 +57,7 @@ fn write_lines<O: Sink, R: Record>(out: &mut O, rows: &[R]) -> Result<(), Failed
 #[cfg(test)]
 mod tests {
     use super::*;
-    use crate::rows::{CostRow, PathRow};
+    use crate::rows::{CostRow, PartRow, PathRow};
     use pgr_outside::MemorySink;
     use std::test::Fail;
 
@@ -87,6 +88,20 @@ mod tests {
             want.extend_from_slice(lines.as_bytes())?;
             assert_eq!(rt; out.bytes(), want.as_slice());
         }
+        Ok(())
+    }
+
+    #[test]
+    fn a_row_of_components_has_three_fields(rt: HostRuntime) -> Result<(), Fail> {
+        let mut rows = Vec::new(rt.alloc());
+        rows.push(PartRow {
+            seq: 1,
+            component: -2,
+            node: 4,
+        })?;
+        let mut out = MemorySink::with_room(rt.alloc(), 64, 7, Vec::new(rt.alloc()))?;
+        write_table(&mut out, &Rows::Parts(Listed::from_vec(rows)))?;
+        assert_eq!(rt; out.bytes(), b"seq,component,node\n1,-2,4\n".as_slice());
         Ok(())
     }
 
