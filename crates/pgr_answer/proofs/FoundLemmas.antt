@@ -131,6 +131,16 @@ less_by_rest Greater Less e differ later = cc
 less_by_rest Greater Equal e differ later = cc
 less_by_rest Greater Greater e differ later = cc
 
+-- what is sorted rises strictly where no two of it compared as equal before
+pub rises_sorted : {X : Type 0} (cmp : X → X → Ordering) → IsTotalOrder cmp → (xs sorted : List X) → AllPairs (λ x y. eq_by_cmp cmp x y ≡ false) xs → IsPermutation xs sorted
+    → IsSorted cmp sorted → IsStrictlyRising cmp sorted
+rises_sorted cmp total xs sorted differ moved in_order i j d before inside =
+    let distinct : IsDistinct (eq_by_cmp cmp) xs = IsDistinct-from_apart (eq_by_cmp cmp) xs differ in
+    let still = IsDistinct-IsPermutation (eq_by_cmp cmp) (eq_by_cmp_equiv total).symm xs sorted moved distinct in
+    less_by_rest _ (cmp (get_or sorted j d) (get_or sorted i d)) (total.antisymm (get_or sorted i d) (get_or sorted j d))
+    (apart_from_distinct (eq_by_cmp cmp) sorted i j d still before inside)
+    (sorted_far (λ x y. is_lt (cmp x y)) (ranks_by total (λ x. x)) sorted in_order i j d (omega arith) inside)
+
 module _ {Shown : Type 0} where
   -- the order of what is found is total
   pub found_total : IsTotalOrder (found_cmp {Shown = Shown})
@@ -154,13 +164,8 @@ module _ {Shown : Type 0} where
 
   -- what rises by its pairs rises by start and then by end once it is sorted so
   pub found_rises : (found sorted : List (Found Shown)) → RisesByPair found → IsPermutation found sorted → IsSorted found_cmp sorted → IsStrictlyRising found_cmp sorted
-  found_rises found sorted by_pair moved in_order i j d before inside =
-      let distinct : IsDistinct (eq_by_cmp found_cmp) found = IsDistinct-from_apart (eq_by_cmp found_cmp) found
-      (λ i j d before inside. apart (get_or found i d) (get_or found j d) (by_pair i j d before inside)) in
-      let still = IsDistinct-IsPermutation (eq_by_cmp found_cmp) (eq_by_cmp_equiv found_total).symm found sorted moved distinct in
-      less_by_rest _ (found_cmp (get_or sorted j d) (get_or sorted i d)) (found_total.antisymm (get_or sorted i d) (get_or sorted j d))
-      (apart_from_distinct (eq_by_cmp found_cmp) sorted i j d still before inside)
-      (sorted_far (λ x y. is_lt (found_cmp x y)) (ranks_by found_total (λ x. x)) sorted in_order i j d (omega arith) inside)
+  found_rises found sorted by_pair moved in_order =
+      rises_sorted found_cmp found_total found sorted (λ i j d before inside. apart (get_or found i d) (get_or found j d) (by_pair i j d before inside)) moved in_order
 
 -- of pairs with one end, each is that end with its start
 pub one_end_pair : (group : List Pair) → HaveEnd group → (i : ℕ) (d : Pair) → i < length group

@@ -3,6 +3,8 @@ pub mod KeptLemmas
 pub mod PairLemmas
 pub mod FoundLemmas
 pub mod PathTables
+pub mod ClassesById
+pub mod ClassTables
 pub mod AnswersAlong
 pub mod TablesFound
 pub mod SameElements

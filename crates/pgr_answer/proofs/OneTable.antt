@@ -1,12 +1,12 @@
 -- One table at most is allowed: answers to the same pairs are one list where what is shown of a pair is one.
-use Rattle.std.proofs.Common.{◌≡◌, ℕ, ℤ, List, sym, ap, ◌∙◌, subst, arith, map}
+use Rattle.std.proofs.Common.{◌≡◌, ◌≢◌, ℕ, ℤ, List, sym, ap, ◌∙◌, subst, arith, map, Ordering, Less, Equal, Greater, refl, true, false}
 use Rattle.std.specs.Prelude.{Any, Contains}
-use Rattle.std.specs.Ordering.{int_cmp}
+use Rattle.std.specs.Ordering.{int_cmp, ordering_reverse}
 use Rattle.std.specs.Cmp.{IsTotalOrder}
 use Rattle.std.proofs.lemmas.Cmp.{int_cmp_total, on_total, then_total}
 use Rattle.std.proofs.lemmas.List.Elements.{All-contains}
 use Rattle.pgr_walks.specs.declared.link.LinkOf.{LinkOf}
-use Rattle.pgr_walks.specs.Walk.{IsWalk}
+use Rattle.pgr_walks.specs.Walk.{IsWalk, IsVertex}
 use Rattle.pgr_walks.specs.LinkOrders.{int_tie}
 use Rattle.pgr_walks.specs.RouteOrders.{least_is_one}
 use Rattle.pgr_words.specs.declared.function.Function.{Function}
@@ -14,7 +14,9 @@ use Rattle.pgr_words.specs.declared.function.Function.TheVariants as function
 use Rattle.pgr_words.specs.declared.command.Command.{Command}
 use Rattle.pgr_graph.specs.Links.{IsLinkOfTable}
 use Rattle.pgr_rows.specs.declared.rows.Rows.{Rows}
-use Rattle.pgr_rows.specs.declared.rows.Rows.TheVariants.{Paths, Costs}
+use Rattle.pgr_rows.specs.declared.rows.Rows.TheVariants.{Paths, Parts, Costs}
+use Rattle.pgr_parts.specs.Classes.{Connected, StronglyConnected, IsClassName}
+use Rattle.pgr_answer.specs.Components.{Member, member_cmp, AreMembers, IsPartTable, part_rows}
 use Rattle.pgr_answer.specs.Pairs.{IsAnswerable, IsAsked, IsAskedOfMatrix}
 use Rattle.pgr_answer.specs.Answers.{Answer, answer_cmp, AreAnswers}
 use Rattle.pgr_answer.specs.Costs.{IsLeastCost}
@@ -78,8 +80,45 @@ module _ (Has : LinkOf ℤ → Type 0) (Asked : ℤ → ℤ → Type 0) where
       let same = answers_are_one Has Asked (IsLeastCost Has) (λ s t cost least. (least.walk, least.is_walk)) (one_least_cost Has) answers others are also in
       rows_are ∙ ap (λ a. Costs (map cost_row a)) same ∙ sym other_are
 
+-- two names of one class are the same
+one_class_name : (InClass : ℤ → ℤ → Type 0) (v name other : ℤ) → IsClassName int_cmp InClass v name → IsClassName int_cmp InClass v other → name ≡ other
+one_class_name InClass v name other is also = int_tie name other
+    (tied (int_cmp name other) (int_cmp other name) (int_cmp_total.antisymm name other) (is.least other also.member) (also.least name is.member))
+  where
+    tied : (o p : Ordering) → o ≡ ordering_reverse p → o ≢ Greater → p ≢ Greater → o ≡ Equal
+    tied Equal p e low high = refl
+    tied Greater p e low high = absurd (low refl)
+    tied Less Less e low high = absurd cc
+    tied Less Equal e low high = absurd cc
+    tied Less Greater e low high = absurd (high refl)
+
+module _ (Has : LinkOf ℤ → Type 0) (InClass : ℤ → ℤ → Type 0) where
+  -- what is a member of the one list is one of the other
+  member_stands : (members others : List Member) → AreMembers Has InClass members → AreMembers Has InClass others → (m : Member) → Contains members m → Contains others m
+  member_stands members others are also m among =
+      let vertex = All-contains (λ (m : Member). IsVertex Has m.node) members m are.vertices among in
+      let is = All-contains (λ (m : Member). IsClassName int_cmp InClass m.node m.component) members m are.named among in
+      let there = also.every m.node vertex in
+      let other = there.1 in
+      let place : Contains others other = (there.0, there.2, there.3) in
+      let same : other.node ≡ m.node = there.4 in
+      let is_other = All-contains (λ (m : Member). IsClassName int_cmp InClass m.node m.component) others other also.named place in
+      let name : other.component ≡ m.component = one_class_name InClass m.node other.component m.component
+      (subst (λ v. IsClassName int_cmp InClass v other.component) same is_other) is in
+      let whole : other ≡ m = λ i. record { component = name i; node = same i } in
+      subst (Contains others) whole place
+
+  -- one table of classes
+  one_part_table : (rows other : Rows) → IsPartTable Has InClass rows → IsPartTable Has InClass other → rows ≡ other
+  one_part_table rows other (members, are, rows_are) (others, also, other_are) =
+      let total = then_total (on_total (λ (m : Member). m.component) int_cmp_total) (on_total (λ (m : Member). m.node) int_cmp_total) in
+      let same = rising_is_one member_cmp total members others are.rise also.rise (member_stands members others are also) (member_stands others members also are) in
+      rows_are ∙ ap (λ ms. Parts (part_rows 1 ms)) same ∙ sym other_are
+
 -- one table for each function
 one_for : (f : Function) (command : Command) (tables : Tables) (rows other : Rows) → IsAllowedFor f command tables rows → IsAllowedFor f command tables other → rows ≡ other
+one_for function.ConnectedComponents command tables = one_part_table (IsLinkOfTable tables.edges false) (Connected (IsLinkOfTable tables.edges false))
+one_for function.StrongComponents command tables = one_part_table (IsLinkOfTable tables.edges true) (StronglyConnected (IsLinkOfTable tables.edges true))
 one_for function.Dijkstra command tables = one_path_table (IsLinkOfTable tables.edges command.directed) (IsAsked command.starts command.ends tables.combinations)
 one_for function.DijkstraCost command tables = one_cost_table (IsLinkOfTable tables.edges command.directed) (IsAsked command.starts command.ends tables.combinations)
 one_for function.DijkstraCostMatrix command tables = one_cost_table (IsLinkOfTable tables.edges command.directed) (IsAskedOfMatrix command.vids)

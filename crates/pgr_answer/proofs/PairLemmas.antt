@@ -175,13 +175,13 @@ pub pair_total : IsTotalOrder pair_cmp
 pair_total = then_total (on_total (λ (p : Pair). p.end) nat_cmp_total) (on_total (λ (p : Pair). p.start) nat_cmp_total)
 
 -- where one order after another says equal, both do
-then_equal : (o p : Ordering) → ordering_then o p ≡ Equal → (o ≡ Equal) × (p ≡ Equal)
+pub then_equal : (o p : Ordering) → ordering_then o p ≡ Equal → (o ≡ Equal) × (p ≡ Equal)
 then_equal Less p e = absurd cc
 then_equal Equal p e = (refl, e)
 then_equal Greater p e = absurd cc
 
 -- numbers that compare as equal are the same
-nat_tie : (x y : ℕ) → nat_cmp x y ≡ Equal → x ≡ y
+pub nat_tie : (x y : ℕ) → nat_cmp x y ≡ Equal → x ≡ y
 nat_tie x y e = ranked x y Equal (sym e)
 
 -- pairs that compare as equal are the same

@@ -7,12 +7,15 @@ use Rattle.pgr_rows.specs.declared.rows.Rows.{Rows}
 use Rattle.pgr_answer.specs.declared.tables.Tables.{Tables}
 use Rattle.pgr_answer.specs.Files.{Content, files_of, AreAccepted}
 use Rattle.pgr_answer.specs.Contents.{tables_of}
+use Rattle.pgr_answer.specs.Components.{IsConnectedComponents, IsStrongComponents}
 use Rattle.pgr_answer.specs.Dijkstra.{IsDijkstra}
 use Rattle.pgr_answer.specs.DijkstraCost.{IsDijkstraCost}
 use Rattle.pgr_answer.specs.DijkstraCostMatrix.{IsDijkstraCostMatrix}
 
 -- the rows are allowed for a command of this function over these tables
 abbrev pub IsAllowedFor : Function → Command → Tables → Rows → Type 0
+IsAllowedFor function.ConnectedComponents command tables rows = IsConnectedComponents tables rows
+IsAllowedFor function.StrongComponents command tables rows = IsStrongComponents tables rows
 IsAllowedFor function.Dijkstra command tables rows = IsDijkstra command tables rows
 IsAllowedFor function.DijkstraCost command tables rows = IsDijkstraCost command tables rows
 IsAllowedFor function.DijkstraCostMatrix command tables rows = IsDijkstraCostMatrix command tables rows

@@ -8,6 +8,8 @@ pub mod Costs
 pub mod Answers
 pub mod Paths
 pub mod CostTables
+pub mod Components
+pub mod Members
 pub mod Dijkstra
 pub mod DijkstraCost
 pub mod DijkstraCostMatrix

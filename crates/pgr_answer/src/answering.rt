@@ -8,6 +8,7 @@ ghost use Rattle.pgr_answer.specs.declared.role.Role.{Role as ARole};
 ghost use Rattle.pgr_answer.specs.declared.refused.Refused.{Refused as ARefused};
 
 use crate::answered::Answered;
+use crate::components::{connected_components_rows, strong_components_rows};
 use crate::dijkstra::dijkstra_rows;
 use crate::dijkstra_cost::dijkstra_cost_rows;
 use crate::dijkstra_cost_matrix::dijkstra_cost_matrix_rows;
@@ -61,6 +62,8 @@ fn allowed_rows(alloc: Global, command: &Command, tables: &Tables) -> Result<Row
     ensures { IfOk result (IsAllowed command.now tables.now) }
 {
     match command.function {
+        Function::ConnectedComponents => connected_components_rows(alloc, tables),
+        Function::StrongComponents => strong_components_rows(alloc, tables),
         Function::Dijkstra => dijkstra_rows(alloc, command, tables),
         Function::DijkstraCost => dijkstra_cost_rows(alloc, command, tables),
         Function::DijkstraCostMatrix => dijkstra_cost_matrix_rows(alloc, command, tables),

@@ -13,6 +13,7 @@
 
 mod answered;
 mod answering;
+mod components;
 mod cost_rows;
 mod costs;
 mod dijkstra;

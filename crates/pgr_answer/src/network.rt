@@ -7,7 +7,7 @@ use pgr_graph::{links_fit, links_of};
 use pgr_numbers::{Names, names_are_few, numbered_links_fit};
 use pgr_outside::NoMemory;
 use pgr_table::EdgeTable;
-use pgr_walks::{Graph, RowGraph, NamedLink};
+use pgr_walks::{Graph, NamedLink, RowGraph};
 use std::alloc::Global;
 
 /// Links between ids, the names of their ends, and a graph of the links between the numbers of these.
