@@ -4,6 +4,8 @@
 #[cfg(test)]
 mod case;
 #[cfg(test)]
+mod components;
+#[cfg(test)]
 mod costs;
 #[cfg(test)]
 mod failures;

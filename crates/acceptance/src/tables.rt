@@ -41,5 +41,8 @@ pub const A_EXPORTED_AND_CUT: &[u8] = b"name,target,source,id,reverse_cost,cost\
 /// The header line of a table of paths.
 pub const PATHS: &str = "seq,path_seq,start_vid,end_vid,node,edge,cost,agg_cost\n";
 
+/// The header line of a table of components.
+pub const PARTS: &str = "seq,component,node\n";
+
 /// The header line of a table of costs.
 pub const COSTS: &str = "start_vid,end_vid,agg_cost\n";
