@@ -5,8 +5,9 @@ use Rattle.pgr_rows.specs.Layout.{Layout, table_text}
 use Rattle.pgr_rows.specs.declared.rows.PathRow.{PathRow}
 use Rattle.pgr_rows.specs.declared.rows.CostRow.{CostRow}
 use Rattle.pgr_rows.specs.declared.rows.PartRow.{PartRow}
+use Rattle.pgr_rows.specs.declared.rows.ReachRow.{ReachRow}
 use Rattle.pgr_rows.specs.declared.rows.Rows.{Rows}
-use Rattle.pgr_rows.specs.declared.rows.Rows.TheVariants.{Paths, Parts, Costs}
+use Rattle.pgr_rows.specs.declared.rows.Rows.TheVariants.{Paths, Parts, Costs, Reaches}
 
 -- rows of paths
 abbrev pub paths : Layout PathRow
@@ -38,8 +39,25 @@ costs = record {
   fields = λ row. signed_decimal row.start_vid ∷ signed_decimal row.end_vid ∷ decimal row.agg_cost ∷ [];
 }
 
+-- rows of reached vertices
+abbrev pub reaches : Layout ReachRow
+reaches = record {
+  header = codes "seq,depth,start_vid,pred,node,edge,cost,agg_cost\n";
+  fields = λ row.
+      decimal row.seq
+      ∷ decimal row.depth
+      ∷ signed_decimal row.start_vid
+      ∷ signed_decimal row.pred
+      ∷ signed_decimal row.node
+      ∷ signed_decimal row.edge
+      ∷ decimal row.cost
+      ∷ decimal row.agg_cost
+      ∷ [];
+}
+
 -- the text of a table
 abbrev pub text_of : Rows → List ℕ
 text_of (Paths rows) = table_text paths rows
 text_of (Parts rows) = table_text parts rows
 text_of (Costs rows) = table_text costs rows
+text_of (Reaches rows) = table_text reaches rows

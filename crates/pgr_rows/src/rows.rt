@@ -116,6 +116,54 @@ impl Record for PartRow {
     }
 }
 
+/// A row of a table of reached vertices: a vertex within a distance of a start, with the link that leads to it.
+#[derive(Clone, Copy, Debug, PartialEq, Eq)]
+pub struct ReachRow {
+    /// The number of the row in the table, from 1.
+    pub seq: u64,
+    /// The fewest links of a path of least cost from the start to the vertex.
+    pub depth: u32,
+    /// The start.
+    pub start_vid: i64,
+    /// The vertex where the link begins; the start itself at the start.
+    pub pred: i64,
+    /// The vertex.
+    pub node: i64,
+    /// The edge of the link, or -1 at the start.
+    pub edge: i64,
+    /// The cost of the link, or 0 at the start.
+    pub cost: u64,
+    /// The least cost from the start to the vertex.
+    pub agg_cost: u64,
+}
+
+impl Record for ReachRow {
+    ghost use Rattle.pgr_rows.specs.Text.{reaches};
+
+    ghost layout = { reaches };
+
+    fn header() -> &'static str {
+        "seq,depth,start_vid,pred,node,edge,cost,agg_cost\n"
+    }
+
+    fn gather<O: Sink>(&self, out: &mut O, piece: &mut Piece) -> Result<(), Failed> {
+        gather_line(
+            out,
+            piece,
+            &[
+                Part::Number(self.seq),
+                Part::Number(u64::from(self.depth)),
+                Part::Signed(self.start_vid),
+                Part::Signed(self.pred),
+                Part::Signed(self.node),
+                Part::Signed(self.edge),
+                Part::Number(self.cost),
+                Part::Number(self.agg_cost),
+            ],
+        )
+    }
+}
+
 /// The rows of a result table, with one variant for each kind of table.
 #[derive(Debug, Drop)]
 pub enum Rows {
@@ -125,4 +173,6 @@ pub enum Rows {
     Parts(Listed<PartRow>),
     /// Costs, of the columns `start_vid,end_vid,agg_cost`.
     Costs(Listed<CostRow>),
+    /// Reached vertices, of the columns `seq,depth,start_vid,pred,node,edge,cost,agg_cost`.
+    Reaches(Listed<ReachRow>),
 }

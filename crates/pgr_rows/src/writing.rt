@@ -24,6 +24,7 @@ pub fn write_table<O: Sink>(out: &mut O, rows: &Rows) -> Result<(), Failed>
         Rows::Paths(rows) => write_records(out, rows),
         Rows::Parts(rows) => write_records(out, rows),
         Rows::Costs(rows) => write_records(out, rows),
+        Rows::Reaches(rows) => write_records(out, rows),
     }
 }
 
@@ -57,7 +58,7 @@ fn write_lines<O: Sink, R: Record>(out: &mut O, rows: &[R]) -> Result<(), Failed
 #[cfg(test)]
 mod tests {
     use super::*;
-    use crate::rows::{CostRow, PartRow, PathRow};
+    use crate::rows::{CostRow, PartRow, PathRow, ReachRow};
     use pgr_outside::MemorySink;
     use std::test::Fail;
 
@@ -118,6 +119,28 @@ mod tests {
         assert_eq!(rt;
             out.bytes(),
             b"start_vid,end_vid,agg_cost\n-1,4,7\n".as_slice()
+        );
+        Ok(())
+    }
+
+    #[test]
+    fn a_row_of_reached_vertices_has_eight_fields(rt: HostRuntime) -> Result<(), Fail> {
+        let mut rows = Vec::new(rt.alloc());
+        rows.push(ReachRow {
+            seq: 1,
+            depth: 2,
+            start_vid: -3,
+            pred: 4,
+            node: 5,
+            edge: -1,
+            cost: 6,
+            agg_cost: 7,
+        })?;
+        let mut out = MemorySink::with_room(rt.alloc(), 128, 7, Vec::new(rt.alloc()))?;
+        write_table(&mut out, &Rows::Reaches(Listed::from_vec(rows)))?;
+        assert_eq!(rt;
+            out.bytes(),
+            b"seq,depth,start_vid,pred,node,edge,cost,agg_cost\n1,2,-3,4,5,-1,6,7\n".as_slice()
         );
         Ok(())
     }
