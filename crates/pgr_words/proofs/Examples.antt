@@ -2,7 +2,7 @@
 use Rattle.std.proofs.Common.{◌≡◌, [], ◌∷◌, Some, None, Ok, Err, true, false, pos, negsuc, codes, refl}
 use Rattle.pgr_outside.specs.declared.side.Side.TheVariants.{B}
 use Rattle.pgr_words.specs.declared.function.Function.TheVariants.{Dijkstra, DijkstraCostMatrix}
-use Rattle.pgr_words.specs.declared.option.OptionName.TheVariants.{Edges, Start, End, Directed}
+use Rattle.pgr_words.specs.declared.option.OptionName.TheVariants.{Edges, Start, End, Directed, Distance}
 use Rattle.pgr_words.specs.declared.estimate.Heuristic.TheVariants.{H5}
 use Rattle.pgr_words.specs.declared.fault.WordFault.TheVariants.{NoFunction, UnknownFunction, BadWord, UnknownOption, RepeatedOption, BadValue, MissingOption}
 use Rattle.pgr_words.specs.Commands.{command_of}
@@ -145,3 +145,13 @@ pub rising_list : command_of (codes "pgr_dijkstraCostMatrix" ∷ codes "--edges=
   order = [];
 })
 rising_list = refl
+
+-- a distance is digits alone, and driving distance needs it and takes no combinations
+pub negative_distance : command_of (codes "pgr_drivingDistance" ∷ codes "--distance=-1" ∷ []) ≡ Err (BadValue Distance)
+negative_distance = refl
+
+pub no_distance : command_of (codes "pgr_drivingDistance" ∷ codes "--start=1" ∷ codes "--edges=a" ∷ []) ≡ Err (MissingOption Distance)
+no_distance = refl
+
+pub driving_combinations : command_of (codes "pgr_drivingDistance" ∷ codes "--combinations=p" ∷ []) ≡ Err (UnknownOption 2)
+driving_combinations = refl

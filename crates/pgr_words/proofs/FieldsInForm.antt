@@ -7,13 +7,15 @@ use Rattle.std.specs.Map.{lookup}
 use Rattle.std.specs.Str.{bytes_eq}
 use Rattle.std.proofs.lemmas.Bool.{ltb-true, leb-true}
 use Rattle.std.proofs.lemmas.List.Elements.{All-head, All-tail}
+use Rattle.std.specs.Str.Parse.{digits_value}
+use Rattle.pgr_numerals.specs.Numeral.{is_digit}
 use Rattle.pgr_numerals.specs.NumeralList.{i64_list_of}
 use Rattle.pgr_numerals.specs.NumeralListLaws.{length-i64_list_of}
 use Rattle.pgr_words.specs.declared.option.OptionName.{OptionName}
 use Rattle.pgr_words.specs.declared.option.OptionName.TheVariants as option
 use Rattle.pgr_words.specs.declared.command.Command.{Command}
 use Rattle.pgr_words.specs.Rising.{rising}
-use Rattle.pgr_words.specs.Forms.{file_name, ids}
+use Rattle.pgr_words.specs.Forms.{file_name, ids, distance}
 use Rattle.pgr_words.specs.Options.{rule_of, is_same, is_in_form}
 use Rattle.pgr_words.specs.Functions.{functions, is_among}
 use Rattle.pgr_words.specs.Words.{options_in, is_needed, first_missing}
@@ -51,20 +53,35 @@ ids_are text list = by (i64_list_of 65536 text) refl
           at_most = omega (arith, length-rising numbers, (length-i64_list_of 65536 text numbers is).1);
         })
 
+-- a distance in its form
+distance_is : (text : List ℕ) (number : ℕ) → distance text ≡ Some number → number ≤ 9223372036854775807
+distance_is [] number = λ e. absurd cc
+distance_is (byte ∷ bytes) number = by (list_all is_digit (byte ∷ bytes)) (nat_le (digits_value 10 (byte ∷ bytes)) 9223372036854775807)
+    (leb-true (digits_value 10 (byte ∷ bytes)) 9223372036854775807)
+  where
+    by : (a b : Bool)
+        → (b ≡ true → digits_value 10 (byte ∷ bytes) ≤ 9223372036854775807)
+        → (if a && b then Some (digits_value 10 (byte ∷ bytes)) else None) ≡ Some number
+        → number ≤ 9223372036854775807
+    by true true few e = let same : digits_value 10 (byte ∷ bytes) ≡ number = cc in subst (λ n. n ≤ 9223372036854775807) same (few refl)
+    by true false few e = cc
+    by false b few e = cc
+
 no_ids : AreIds []
 no_ids = record { rises = λ i j d before inside. absurd (omega arith); at_most = omega arith }
 
 -- ---- files that may be absent, and lists
 
 abbrev Holds : Command → Type 0
-Holds command = IfSome command.combinations IsFileName × AreIds command.starts × AreIds command.ends × AreIds command.vids
+Holds command = IfSome command.combinations IsFileName × AreIds command.starts × AreIds command.ends × AreIds command.vids × (command.distance ≤ 9223372036854775807)
 
 -- one option more
 holds_with : (o : OptionName) (text : List ℕ) (command : Command) → Holds command → Holds (with_given command (o, text))
-holds_with option.Combinations text = field_keeps Holds (file_name text) _ (λ name is c h. (file_is text name is, h.1, h.2, h.3))
-holds_with option.Start text = field_keeps Holds (ids text) _ (λ list is c h. (h.0, ids_are text list is, h.2, h.3))
-holds_with option.End text = field_keeps Holds (ids text) _ (λ list is c h. (h.0, h.1, ids_are text list is, h.3))
-holds_with option.Vids text = field_keeps Holds (ids text) _ (λ list is c h. (h.0, h.1, h.2, ids_are text list is))
+holds_with option.Combinations text = field_keeps Holds (file_name text) _ (λ name is c h. (file_is text name is, h.1, h.2, h.3, h.4))
+holds_with option.Start text = field_keeps Holds (ids text) _ (λ list is c h. (h.0, ids_are text list is, h.2, h.3, h.4))
+holds_with option.End text = field_keeps Holds (ids text) _ (λ list is c h. (h.0, h.1, ids_are text list is, h.3, h.4))
+holds_with option.Vids text = field_keeps Holds (ids text) _ (λ list is c h. (h.0, h.1, h.2, ids_are text list is, h.4))
+holds_with option.Distance text = field_keeps Holds (distance text) _ (λ number is c h. (h.0, h.1, h.2, h.3, distance_is text number is))
 holds_with _ text = field_keeps Holds _ _ (λ x is c h. h)
 
 -- all of them
@@ -306,6 +323,17 @@ directed_left : (o : OptionName) (text : List ℕ) (command : Command)
 directed_left option.Directed text command other h = cc
 directed_left _ text command other h = field_keeps (λ c. c.directed ≡ true) _ _ (λ x is c h. h) command h
 
+distance_left : (o : OptionName) (text : List ℕ) (command : Command) → is_same o option.Distance ≡ false → command.distance ≡ 0 → (with_given command (o, text)).distance ≡ 0
+distance_left option.Distance text command other h = cc
+distance_left _ text command other h = field_keeps (λ c. c.distance ≡ 0) _ _ (λ x is c h. h) command h
+
+equicost_left : (o : OptionName) (text : List ℕ) (command : Command)
+    → is_same o option.Equicost ≡ false
+    → command.equicost ≡ false
+    → (with_given command (o, text)).equicost ≡ false
+equicost_left option.Equicost text command other h = cc
+equicost_left _ text command other h = field_keeps (λ c. c.equicost ≡ false) _ _ (λ x is c h. h) command h
+
 -- ---- a command
 
 -- without combinations in the command none are given
@@ -323,7 +351,7 @@ none_given options command givens good none =
 pub in_form : (command : Command) (well : IsWellFormed command) → AreInForm well.options command
 in_form command well =
     let begin = defaults command.function in
-    let holds = holds_after begin well.given (tt, no_ids, no_ids, no_ids) in
+    let holds = holds_after begin well.given (tt, no_ids, no_ids, no_ids, omega arith) in
     let has_edges = looked_up (bytes_eq well.name) (λ row. is_among row.1 option.Edges) functions (command.function, well.options) each_has_edges well.function in
     let stood = options_in well.given in
     let edges = none_missing well.options stood option.Edges edges_alike well.complete refl has_edges in
@@ -333,6 +361,7 @@ in_form command well =
       starts = holds.1;
       ends = holds.2;
       vids = holds.3;
+      distance = holds.4;
       starts_needed = λ has none. brought HasStarts option.Start starts_stay starts_come well.options begin well.given well.good
           (inl (none_missing well.options stood option.Start starts_alike well.complete (none_given well.options begin well.given well.good none) has));
       ends_needed = λ has none. brought HasEnds option.End ends_stay ends_come well.options begin well.given well.good
@@ -344,5 +373,7 @@ in_form command well =
       ends_unused = λ absent. left_alone (λ c. c.ends ≡ []) option.End ends_left well.options begin well.given well.good absent refl;
       vids_unused = λ absent. left_alone (λ c. c.vids ≡ []) option.Vids vids_left well.options begin well.given well.good absent refl;
       directed_unused = λ absent. left_alone (λ c. c.directed ≡ true) option.Directed directed_left well.options begin well.given well.good absent refl;
+      distance_unused = λ absent. left_alone (λ c. c.distance ≡ 0) option.Distance distance_left well.options begin well.given well.good absent refl;
+      equicost_unused = λ absent. left_alone (λ c. c.equicost ≡ false) option.Equicost equicost_left well.options begin well.given well.good absent refl;
     } in
     subst (AreInForm well.options) (sym well.fields) made

@@ -1,6 +1,7 @@
 -- The forms of values: what the text behind an option's equals sign stands for, if it is in the form, and what a reader of a form answers.
 use Rattle.std.specs.Prelude.{◌≡◌, ℕ, Bool, true, false, ◌&&◌, if◌then◌else◌, nat_lt, nat_le, List, length, codes, ℤ, Option, Some, None, option_map, Result, Ok, Err}
 use Rattle.std.specs.Str.{bytes_eq}
+use Rattle.pgr_numerals.specs.Numeral.{digits_up_to}
 use Rattle.pgr_numerals.specs.NumeralList.{i64_list_of}
 use Rattle.pgr_words.specs.declared.value.ValueRefused.{ValueRefused}
 use Rattle.pgr_words.specs.declared.value.ValueRefused.TheVariants.{Form, Memory}
@@ -14,6 +15,10 @@ most_name_bytes = 4096
 abbrev pub most_ids : ℕ
 most_ids = 65536
 
+-- the greatest distance
+abbrev pub most_distance : ℕ
+most_distance = 9223372036854775807
+
 -- a file name: 1 to 4,096 bytes, as they stand
 abbrev pub file_name : List ℕ → Option (List ℕ)
 file_name text = if nat_lt 0 (length text) && nat_le (length text) most_name_bytes then Some text else None
@@ -25,6 +30,10 @@ ids text = option_map rising (i64_list_of most_ids text)
 -- a flag: `true` or `false`
 abbrev pub flag : List ℕ → Option Bool
 flag text = if bytes_eq text (codes "true") then Some true else (if bytes_eq text (codes "false") then Some false else None)
+
+-- a distance: digits alone, from 0 to 2^63 - 1
+abbrev pub distance : List ℕ → Option ℕ
+distance text = digits_up_to most_distance text
 
 -- the answer of a reader is what the text stands for, or that it isn't in the form, unless memory was wanting
 abbrev pub Reads : {X Y : Type 0} → (X → Y) → Option Y → Result X ValueRefused → Type 0

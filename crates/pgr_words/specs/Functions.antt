@@ -6,7 +6,7 @@ use Rattle.std.specs.Str.{bytes_eq}
 use Rattle.pgr_words.specs.declared.function.Function.{Function}
 use Rattle.pgr_words.specs.declared.function.Function.TheVariants as function
 use Rattle.pgr_words.specs.declared.option.OptionName.{OptionName}
-use Rattle.pgr_words.specs.declared.option.OptionName.TheVariants.{Edges, Combinations, Start, End, Vids, Directed}
+use Rattle.pgr_words.specs.declared.option.OptionName.TheVariants.{Edges, Combinations, Start, End, Vids, Directed, Distance, Equicost}
 use Rattle.pgr_words.specs.Options.{name_of, is_same}
 
 -- the options of a function that asks for pairs, in the order in which needed ones are looked for
@@ -21,6 +21,10 @@ component_options = Edges ∷ []
 abbrev pub matrix_options : List OptionName
 matrix_options = Edges ∷ Vids ∷ Directed ∷ []
 
+-- the options of driving distance, in the same order
+abbrev pub driving_options : List OptionName
+driving_options = Edges ∷ Start ∷ Distance ∷ Directed ∷ Equicost ∷ []
+
 -- each function by what it is called, with its options
 abbrev pub functions : List (List ℕ × (Function × List OptionName))
 functions =
@@ -29,6 +33,7 @@ functions =
     ∷ (codes "pgr_dijkstra", (function.Dijkstra, pair_options))
     ∷ (codes "pgr_dijkstraCost", (function.DijkstraCost, pair_options))
     ∷ (codes "pgr_dijkstraCostMatrix", (function.DijkstraCostMatrix, matrix_options))
+    ∷ (codes "pgr_drivingDistance", (function.DrivingDistance, driving_options))
     ∷ []
 
 -- the function that is called so, and its options

@@ -6,7 +6,7 @@ use Rattle.pgr_words.specs.declared.option.Need.{Need}
 use Rattle.pgr_words.specs.declared.option.Need.TheVariants.{Always, WithoutCombinations, Never}
 use Rattle.pgr_words.specs.declared.option.OptionName.{OptionName}
 use Rattle.pgr_words.specs.declared.option.OptionName.TheVariants as option
-use Rattle.pgr_words.specs.Forms.{file_name, ids, flag}
+use Rattle.pgr_words.specs.Forms.{file_name, ids, flag, distance}
 
 -- an option: its name without the two hyphens, when it is needed, and what a text makes of a command, or none where the text isn't in the option's form
 pub record OptionRule : Type 0 where
@@ -49,6 +49,16 @@ rule_of option.Directed = record {
   name = codes "directed";
   need = Never;
   fill = into flag (λ is_directed command. record command { directed = is_directed });
+}
+rule_of option.Distance = record {
+  name = codes "distance";
+  need = Always;
+  fill = into distance (λ number command. record command { distance = number });
+}
+rule_of option.Equicost = record {
+  name = codes "equicost";
+  need = Never;
+  fill = into flag (λ is_equicost command. record command { equicost = is_equicost });
 }
 
 -- what an option is called, without its two hyphens

@@ -11,7 +11,7 @@ use crate::command::Command;
 use crate::fault::{WordFault, WordsRefused};
 use crate::function::Function;
 use crate::option::{Need, OptionName};
-use crate::value::{ValueRefused, read_file_name, read_flag, read_ids};
+use crate::value::{ValueRefused, read_distance, read_file_name, read_flag, read_ids};
 use std::alloc::Global;
 
 /// A command that is being read: its fields so far, and the options that stood.
@@ -114,6 +114,8 @@ fn set_option(
         OptionName::End => command.ends = read_ids(alloc, value)?,
         OptionName::Vids => command.vids = read_ids(alloc, value)?,
         OptionName::Directed => command.directed = read_flag(value)?,
+        OptionName::Distance => command.distance = read_distance(value)?,
+        OptionName::Equicost => command.equicost = read_flag(value)?,
     }
     Ok(())
 }

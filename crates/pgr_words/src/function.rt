@@ -16,6 +16,8 @@ pub enum Function {
     ConnectedComponents,
     /// `pgr_strongComponents`: the strongly connected classes of the vertices.
     StrongComponents,
+    /// `pgr_drivingDistance`: the vertices within a distance of a start.
+    DrivingDistance,
 }
 
 /// The options of a function that asks for pairs, in the order in which needed ones are looked for.
@@ -33,6 +35,15 @@ const COMPONENT_OPTIONS: [OptionName; 1] = [OptionName::Edges];
 /// The options of a function that asks for all pairs of one list, in the same order.
 const MATRIX_OPTIONS: [OptionName; 3] = [OptionName::Edges, OptionName::Vids, OptionName::Directed];
 
+/// The options of driving distance, in the same order.
+const DRIVING_OPTIONS: [OptionName; 5] = [
+    OptionName::Edges,
+    OptionName::Start,
+    OptionName::Distance,
+    OptionName::Directed,
+    OptionName::Equicost,
+];
+
 impl Function {
     /// The function that is called so, with its options, if there is one.
     pub(crate) fn named(name: &str) -> Option<(Function, &'static [OptionName])>
@@ -44,6 +55,7 @@ impl Function {
             "pgr_dijkstra" => Some((Function::Dijkstra, &PAIR_OPTIONS)),
             "pgr_dijkstraCost" => Some((Function::DijkstraCost, &PAIR_OPTIONS)),
             "pgr_dijkstraCostMatrix" => Some((Function::DijkstraCostMatrix, &MATRIX_OPTIONS)),
+            "pgr_drivingDistance" => Some((Function::DrivingDistance, &DRIVING_OPTIONS)),
             _ => None,
         }
     }

@@ -20,6 +20,10 @@ pub enum OptionName {
     Vids,
     /// Whether the graph is directed.
     Directed,
+    /// How far is driven.
+    Distance,
+    /// Whether each vertex is given to its closest start.
+    Equicost,
 }
 
 /// When a function needs an option that it has.
@@ -62,6 +66,8 @@ impl OptionName {
             OptionName::End => ("end", Need::WithoutCombinations),
             OptionName::Vids => ("vids", Need::Always),
             OptionName::Directed => ("directed", Need::Never),
+            OptionName::Distance => ("distance", Need::Always),
+            OptionName::Equicost => ("equicost", Need::Never),
         };
         OptionRule { name, need }
     }

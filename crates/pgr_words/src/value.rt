@@ -1,8 +1,8 @@
 ghost use Rattle.std.specs.Prelude.{◌≡◌};
-ghost use Rattle.pgr_words.specs.Forms.{Reads, file_name, ids, flag};
+ghost use Rattle.pgr_words.specs.Forms.{Reads, file_name, ids, flag, distance};
 ghost use Rattle.pgr_words.specs.Rising.{rising};
 
-use pgr_numerals::read_i64_list;
+use pgr_numerals::{read_digits, read_i64_list};
 use pgr_outside::{Listed, Text};
 use std::alloc::{AllocError, Global};
 
@@ -11,6 +11,9 @@ const MOST_NAME_BYTES: usize = 4096;
 
 /// The most ids in a list.
 const MOST_IDS: usize = 65536;
+
+/// The greatest distance.
+const MOST_DISTANCE: u64 = 9_223_372_036_854_775_807;
 
 /// Why a value wasn't read.
 #[derive(Clone, Copy, Debug, PartialEq, Eq, Drop)]
@@ -63,6 +66,13 @@ pub(crate) fn read_flag(value: &str) -> Result<bool, ValueRefused>
         "false" => Ok(false),
         _ => Err(ValueRefused::Form),
     }
+}
+
+/// A distance: digits alone, from 0 to 2^63 - 1.
+pub(crate) fn read_distance(value: &str) -> Result<u64, ValueRefused>
+    ensures { Reads (λ number. number) (distance value.now) result }
+{
+    read_digits(value.as_bytes(), MOST_DISTANCE).ok_or(ValueRefused::Form)
 }
 
 /// Puts the numbers in order and takes repeats out.

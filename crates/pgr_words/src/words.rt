@@ -107,6 +107,51 @@ mod tests {
     }
 
     #[test]
+    fn driving_distance_has_a_start_and_a_distance(rt: HostRuntime) -> Result<(), Fail> {
+        let alloc = rt.alloc();
+        let words = words(
+            alloc,
+            &[
+                "pgr_drivingDistance",
+                "--equicost=true",
+                "--distance=009223372036854775807",
+                "--start=3,1",
+                "--edges=a.csv",
+            ],
+        )?;
+        let command = read_words(alloc, words.as_slice())?;
+        assert_eq!(rt; command.function, Function::DrivingDistance);
+        assert_eq!(rt; command.starts.as_slice(), [1, 3].as_slice());
+        assert_eq!(rt; command.distance, 9_223_372_036_854_775_807);
+        assert!(rt; command.equicost);
+        assert!(rt; command.directed);
+        Ok(())
+    }
+
+    #[test]
+    fn driving_distance_needs_its_options_in_order(rt: HostRuntime) -> Result<(), Fail> {
+        let alloc = rt.alloc();
+        let name = "pgr_drivingDistance";
+        let no_start = WordFault::MissingOption(OptionName::Start);
+        assert_eq!(rt; fault(alloc, &[name, "--edges=a.csv"])?, Some(no_start));
+        let no_distance = WordFault::MissingOption(OptionName::Distance);
+        assert_eq!(rt; fault(alloc, &[name, "--edges=a", "--start=1"])?, Some(no_distance));
+        let unknown = WordFault::UnknownOption(2);
+        assert_eq!(rt; fault(alloc, &[name, "--combinations=p.csv"])?, Some(unknown));
+        let bad = WordFault::BadValue(OptionName::Distance);
+        for distance in [
+            "--distance=",
+            "--distance=-1",
+            "--distance=+1",
+            "--distance=1.0",
+            "--distance=9223372036854775808",
+        ] {
+            assert_eq!(rt; fault(alloc, &[name, distance])?, Some(bad), "{distance}");
+        }
+        Ok(())
+    }
+
+    #[test]
     fn the_first_fault_is_told(rt: HostRuntime) -> Result<(), Fail> {
         let alloc = rt.alloc();
         assert_eq!(rt; fault(alloc, &[])?, Some(WordFault::NoFunction));
