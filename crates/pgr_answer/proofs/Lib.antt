@@ -13,4 +13,10 @@ pub mod LeastCosts
 pub mod FirstRefusals
 pub mod ReadFiles
 pub mod KnownContents
+pub mod ReachById
+pub mod ClosestById
+pub mod WithinAlong
+pub mod OneReachTable
+pub mod ReachTables
+pub mod ReachesFound
 pub mod Examples

@@ -25,6 +25,7 @@ use Rattle.pgr_answer.specs.Paths.{IsLeastBetween, IsPathTable, path_table}
 use Rattle.pgr_answer.specs.declared.tables.Tables.{Tables}
 use Rattle.pgr_answer.specs.Allowed.{IsAllowed, IsAllowedFor}
 use Rattle.pgr_answer.proofs.SameElements.{rising_is_one}
+use Rattle.pgr_answer.proofs.OneReachTable.{one_reach_table}
 
 -- the order of answers is total
 answer_total : {Shown : Type 0} → IsTotalOrder (answer_cmp {Shown = Shown})
@@ -122,6 +123,7 @@ one_for function.StrongComponents command tables = one_part_table (IsLinkOfTable
 one_for function.Dijkstra command tables = one_path_table (IsLinkOfTable tables.edges command.directed) (IsAsked command.starts command.ends tables.combinations)
 one_for function.DijkstraCost command tables = one_cost_table (IsLinkOfTable tables.edges command.directed) (IsAsked command.starts command.ends tables.combinations)
 one_for function.DijkstraCostMatrix command tables = one_cost_table (IsLinkOfTable tables.edges command.directed) (IsAskedOfMatrix command.vids)
+one_for function.DrivingDistance command tables = one_reach_table (IsLinkOfTable tables.edges command.directed) command.starts command.distance command.equicost
 
 -- one table at most is allowed for a command over tables
 pub one_is_allowed : (command : Command) (tables : Tables) (rows other : Rows) → IsAllowed command tables rows → IsAllowed command tables other → rows ≡ other

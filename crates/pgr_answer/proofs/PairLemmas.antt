@@ -195,28 +195,33 @@ same_parts p q = nat_eq p.end q.end && nat_eq p.start q.start
 pub parts_tie : (p q : Pair) → same_parts p q ≡ eq_by_cmp pair_cmp p q
 parts_tie p q = search (comparing, rules)
 
-module _ (same : Pair → Pair → Bool) (ties : (p q : Pair) → same p q ≡ eq_by_cmp pair_cmp p q) where
-  same_is_equality : (p q : Pair) → same p q ≡ true → p ≡ q
-  same_is_equality p q e = pair_tie p q ((Equal-is _).0 (sym (ties p q) ∙ e))
+-- numbers are the same where they compare as equal
+pub numbers_tie : (x y : ℕ) → nat_eq x y ≡ eq_by_cmp nat_cmp x y
+numbers_tie x y = search (comparing, rules)
+
+module _ {X : Type 0} (cmp : X → X → Ordering) (total : IsTotalOrder cmp) (tie : (x y : X) → cmp x y ≡ Equal → x ≡ y)
+    (same : X → X → Bool) (ties : (x y : X) → same x y ≡ eq_by_cmp cmp x y) where
+  same_is_equality : (x y : X) → same x y ≡ true → x ≡ y
+  same_is_equality x y e = tie x y ((Equal-is _).0 (sym (ties x y) ∙ e))
 
   same_equivalence : IsEquivalence same
-  same_equivalence = let e = eq_by_cmp_equiv pair_total in record {
+  same_equivalence = let e = eq_by_cmp_equiv total in record {
     refl = λ x. ties x x ∙ e.refl x;
     symm = λ x y. ties x y ∙ (e.symm x y ∙ sym (ties y x));
     congr = λ x y z h. ties x z ∙ (e.congr x y z (sym (ties x y) ∙ h) ∙ sym (ties y z));
   }
 
-  -- a sort and a `dedup` keep the pairs
-  pub pairs_kept : (P : Pair → Type 0) (pairs sorted last : List Pair) → ((pair : Pair) → Contains pairs pair ↔ P pair) → IsPermutation pairs sorted → last ≡ dedup same sorted
-      → (pair : Pair) → Contains last pair ↔ P pair
-  pairs_kept P pairs sorted last are moved last_is pair = (
-    λ h. (are pair).0 (Contains-permutation sorted pairs pair (IsPermutation-sym pairs sorted moved)
-        (Contains-from_dedup same sorted pair (subst (λ ps. Contains ps pair) last_is h))),
-    λ h. subst (λ ps. Contains ps pair) (sym last_is) (Contains-dedup same_equivalence same_is_equality sorted pair
-        (Contains-permutation pairs sorted pair moved ((are pair).1 h))),
+  -- a sort and a `dedup` keep the elements
+  pub once_kept : (P : X → Type 0) (xs sorted last : List X) → ((x : X) → Contains xs x ↔ P x) → IsPermutation xs sorted → last ≡ dedup same sorted
+      → (x : X) → Contains last x ↔ P x
+  once_kept P xs sorted last are moved last_is x = (
+    λ h. (are x).0 (Contains-permutation sorted xs x (IsPermutation-sym xs sorted moved)
+        (Contains-from_dedup same sorted x (subst (λ ys. Contains ys x) last_is h))),
+    λ h. subst (λ ys. Contains ys x) (sym last_is) (Contains-dedup same_equivalence same_is_equality sorted x
+        (Contains-permutation xs sorted x moved ((are x).1 h))),
   )
 
   -- and leave them rising
-  pub pairs_rise : (sorted last : List Pair) → IsSorted pair_cmp sorted → last ≡ dedup same sorted → IsStrictlyRising pair_cmp last
-  pairs_rise sorted last in_order last_is i j d before inside =
-      Less-from_sorted pair_cmp last i j d (subst (IsStrictlySortedBy pair_cmp) (sym last_is) (IsStrictlySortedBy-dedup pair_total ties sorted in_order)) before inside
+  pub once_rise : (sorted last : List X) → IsSorted cmp sorted → last ≡ dedup same sorted → IsStrictlyRising cmp last
+  once_rise sorted last in_order last_is i j d before inside =
+      Less-from_sorted cmp last i j d (subst (IsStrictlySortedBy cmp) (sym last_is) (IsStrictlySortedBy-dedup total ties sorted in_order)) before inside

@@ -11,6 +11,7 @@ use Rattle.pgr_answer.specs.Components.{IsConnectedComponents, IsStrongComponent
 use Rattle.pgr_answer.specs.Dijkstra.{IsDijkstra}
 use Rattle.pgr_answer.specs.DijkstraCost.{IsDijkstraCost}
 use Rattle.pgr_answer.specs.DijkstraCostMatrix.{IsDijkstraCostMatrix}
+use Rattle.pgr_answer.specs.DrivingDistance.{IsDrivingDistance}
 
 -- the rows are allowed for a command of this function over these tables
 abbrev pub IsAllowedFor : Function → Command → Tables → Rows → Type 0
@@ -19,6 +20,7 @@ IsAllowedFor function.StrongComponents command tables rows = IsStrongComponents 
 IsAllowedFor function.Dijkstra command tables rows = IsDijkstra command tables rows
 IsAllowedFor function.DijkstraCost command tables rows = IsDijkstraCost command tables rows
 IsAllowedFor function.DijkstraCostMatrix command tables rows = IsDijkstraCostMatrix command tables rows
+IsAllowedFor function.DrivingDistance command tables rows = IsDrivingDistance command tables rows
 
 -- the rows are allowed for a command over these tables
 abbrev pub IsAllowed : Command → Tables → Rows → Type 0

@@ -13,9 +13,11 @@ pub mod Members
 pub mod Dijkstra
 pub mod DijkstraCost
 pub mod DijkstraCostMatrix
+pub mod DrivingDistance
 pub mod Allowed
 pub mod Networks
 pub mod Found
 pub mod Reading
 pub mod Gathering
 pub mod Finding
+pub mod Rooted

@@ -12,6 +12,7 @@ use crate::components::{connected_components_rows, strong_components_rows};
 use crate::dijkstra::dijkstra_rows;
 use crate::dijkstra_cost::dijkstra_cost_rows;
 use crate::dijkstra_cost_matrix::dijkstra_cost_matrix_rows;
+use crate::driving_distance::driving_distance_rows;
 use crate::reading::read_tables;
 use crate::refused::Refused;
 use crate::tables::Tables;
@@ -67,5 +68,6 @@ fn allowed_rows(alloc: Global, command: &Command, tables: &Tables) -> Result<Row
         Function::Dijkstra => dijkstra_rows(alloc, command, tables),
         Function::DijkstraCost => dijkstra_cost_rows(alloc, command, tables),
         Function::DijkstraCostMatrix => dijkstra_cost_matrix_rows(alloc, command, tables),
+        Function::DrivingDistance => driving_distance_rows(alloc, command, tables),
     }
 }

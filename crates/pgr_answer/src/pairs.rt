@@ -35,7 +35,7 @@ pub(crate) fn asked_pairs(
 }
 
 /// The numbers of the ids that are names, in order.
-fn numbers_of(alloc: Global, names: &Names, ids: &[i64]) -> Result<Vec<u32>, NoMemory>
+pub(crate) fn numbers_of(alloc: Global, names: &Names, ids: &[i64]) -> Result<Vec<u32>, NoMemory>
     ensures { IfOk result (λ numbers. AreNumbersOf names.now ids.now numbers.items) }
 {
     let mut numbers = Vec::new(alloc);

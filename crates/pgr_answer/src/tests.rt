@@ -1,6 +1,6 @@
 use crate::{Answered, Refused, Role, answer};
 use pgr_outside::MemoryStore;
-use pgr_rows::{CostRow, PathRow, Rows};
+use pgr_rows::{CostRow, PathRow, ReachRow, Rows};
 use pgr_table::TableFault;
 use pgr_words::read_words;
 use std::alloc::{AllocError, Global};
@@ -110,6 +110,41 @@ fn a_matrix_has_the_costs_both_ways(rt: HostRuntime) -> Result<(), Fail> {
         (4, 2, 4),
     ];
     assert_costs(&rt, rt.alloc(), &words, &costs)
+}
+
+#[test]
+fn a_vertex_within_the_distance_is_under_its_closest_start(rt: HostRuntime) -> Result<(), Fail> {
+    let words = [
+        "pgr_drivingDistance",
+        "--edges=a.csv",
+        "--start=3,1",
+        "--distance=3",
+        "--equicost=true",
+    ];
+    let answered = answer_to(rt.alloc(), &words, PAIRS)??;
+    let Rows::Reaches(rows) = &answered.rows else {
+        panic!(rt; "a table of reached vertices")
+    };
+    let shown: Vec<(u64, u32, i64, i64)> = rows
+        .as_slice()
+        .iter()
+        .map(|row| (row.seq, row.depth, row.start_vid, row.node))
+        .collect(rt.alloc())?;
+    let expected = [(1, 0, 1, 1), (2, 1, 1, 2), (3, 0, 3, 3), (4, 1, 3, 4)];
+    assert_eq!(rt; shown.as_slice(), expected.as_slice());
+    let last = ReachRow {
+        seq: 4,
+        depth: 1,
+        start_vid: 3,
+        pred: 3,
+        node: 4,
+        edge: 4,
+        cost: 0,
+        agg_cost: 0,
+    };
+    assert_eq!(rt; rows.as_slice()[3], last);
+    assert!(rt; answered.notes.is_empty());
+    Ok(())
 }
 
 #[test]
