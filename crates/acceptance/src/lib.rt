@@ -8,6 +8,8 @@ mod components;
 #[cfg(test)]
 mod costs;
 #[cfg(test)]
+mod driving;
+#[cfg(test)]
 mod failures;
 #[cfg(test)]
 mod paths;

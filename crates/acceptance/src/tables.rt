@@ -46,3 +46,6 @@ pub const PARTS: &str = "seq,component,node\n";
 
 /// The header line of a table of costs.
 pub const COSTS: &str = "start_vid,end_vid,agg_cost\n";
+
+/// The header line of a table of reached vertices.
+pub const REACHES: &str = "seq,depth,start_vid,pred,node,edge,cost,agg_cost\n";
