@@ -135,9 +135,15 @@ mod tests {
         let no_start = WordFault::MissingOption(OptionName::Start);
         assert_eq!(rt; fault(alloc, &[name, "--edges=a.csv"])?, Some(no_start));
         let no_distance = WordFault::MissingOption(OptionName::Distance);
-        assert_eq!(rt; fault(alloc, &[name, "--edges=a", "--start=1"])?, Some(no_distance));
+        assert_eq!(rt;
+            fault(alloc, &[name, "--edges=a", "--start=1"])?,
+            Some(no_distance)
+        );
         let unknown = WordFault::UnknownOption(2);
-        assert_eq!(rt; fault(alloc, &[name, "--combinations=p.csv"])?, Some(unknown));
+        assert_eq!(rt;
+            fault(alloc, &[name, "--combinations=p.csv"])?,
+            Some(unknown)
+        );
         let bad = WordFault::BadValue(OptionName::Distance);
         for distance in [
             "--distance=",
