@@ -1,6 +1,6 @@
 -- One table of driving distance at most is allowed.
-use Rattle.std.proofs.Common.{◌≡◌, ◌⊎◌, inl, inr, ⊎_elim, ℕ, ℤ, ◌<◌, zero, suc, Bool, true, false, cond, List, [], ◌∷◌, map, length, refl, sym, ap, ◌∙◌, subst, arith, Ordering, Less, Equal, Greater}
-use Rattle.std.specs.Prelude.{◌↔◌, Any, Contains, filter}
+use Rattle.std.proofs.Common.{◌≡◌, ◌⊎◌, inl, inr, ℕ, ℤ, suc, Bool, true, false, cond, List, [], ◌∷◌, map, refl, sym, ap, ◌∙◌, subst, arith, Ordering, Less, Equal, Greater}
+use Rattle.std.specs.Prelude.{Any, Contains, filter}
 use Rattle.std.specs.Ordering.{nat_cmp, int_cmp, ordering_then, ordering_reverse}
 use Rattle.std.specs.Cmp.{IsTotalOrder}
 use Rattle.std.proofs.lemmas.Cmp.{int_cmp_total, nat_cmp_total, on_total, then_total}
@@ -15,10 +15,9 @@ use Rattle.pgr_rows.specs.declared.rows.Rows.TheVariants.{Reaches}
 use Rattle.pgr_reach.specs.declared.reach.ReachedOf.{ReachedOf}
 use Rattle.pgr_reach.specs.FromRoot.{IsTreeLink}
 use Rattle.pgr_reach.specs.Within.{AreWithin, IsRowWithin, IsRootRow, IsTreeRow, row_cmp}
-use Rattle.pgr_reach.specs.Equicost.{AreClosest, IsClosest, with_kept}
+use Rattle.pgr_reach.specs.Equicost.{AreClosest, with_kept}
 use Rattle.pgr_answer.specs.DrivingDistance.{Rooted, AreReaches, AreShown, IsReachTable, reach_table}
 use Rattle.pgr_answer.proofs.SameElements.{rising_is_one}
-use Rattle.pgr_answer.proofs.ReachById.{image}
 
 -- two labels that are at most each other are the same
 at_most_both : (a b : Label) → AtMost a b → AtMost b a → a ≡ b
@@ -31,10 +30,10 @@ at_most_both a b (inr h) (inr k) = let hops : a.hops ≡ b.hops = omega (arith, 
 not_before : (cmp : LinkOf ℤ → LinkOf ℤ → Ordering) → IsTotalOrder cmp → (a b : LinkOf ℤ) → (cmp a b ≡ Less → ⊥) → (cmp b a ≡ Less → ⊥) → cmp a b ≡ Equal
 not_before cmp total a b left right = by (cmp a b) refl
   where
-  by : (o : Ordering) → cmp a b ≡ o → cmp a b ≡ Equal
-  by Less e = absurd (left e)
-  by Equal e = e
-  by Greater e = absurd (right (total.antisymm b a ∙ ap ordering_reverse e))
+    by : (o : Ordering) → cmp a b ≡ o → cmp a b ≡ Equal
+    by Less e = absurd (left e)
+    by Equal e = e
+    by Greater e = absurd (right (total.antisymm b a ∙ ap ordering_reverse e))
 
 -- the order of rows is total
 row_total : IsTotalOrder (row_cmp int_cmp)
@@ -49,7 +48,7 @@ module _ (Has : LinkOf ℤ → Type 0) (root : ℤ) where
   one_tree : (v : ℤ) (a b : LinkOf ℤ) → IsTreeLink int_cmp Has root v a → IsTreeLink int_cmp Has root v b → a ≡ b
   one_tree v a b is_a is_b =
       let tied = not_before (entry_cmp int_cmp) (entry_total int_cmp int_cmp_total) a b
-          (is_b.least a is_a.has is_a.leads is_a.tight) (is_a.least b is_b.has is_b.leads is_b.tight) in
+      (is_b.least a is_a.has is_a.leads is_a.tight) (is_a.least b is_b.has is_b.leads is_b.tight) in
       let first = then_tie (int_cmp a.edge b.edge) (ordering_then (nat_cmp a.cost b.cost) (int_cmp a.from b.from)) tied in
       let second = then_tie (nat_cmp a.cost b.cost) (int_cmp a.from b.from) first.1 in
       same_link a b (int_tie _ _ second.1) (int_tie _ _ first.0) (nat_tie _ _ second.0) (is_a.leads ∙ sym is_b.leads)
@@ -61,16 +60,17 @@ module _ (Has : LinkOf ℤ → Type 0) (root : ℤ) where
   one_row : (limit : ℕ) (a b : ReachedOf ℤ) → IsRowWithin int_cmp Has root limit a → IsRowWithin int_cmp Has root limit b → a.node ≡ b.node → a ≡ b
   one_row limit a b is_a is_b node = by is_a.link is_b.link
     where
-    label : a.label ≡ b.label
-    label = one_label b.node a.label b.label (subst (λ v. IsLeastLabelFrom Has root v a.label) node is_a.label) is_b.label
-    by : IsRootRow root a ⊎ IsTreeRow int_cmp Has root a → IsRootRow root b ⊎ IsTreeRow int_cmp Has root b → a ≡ b
-    by (inl h) (inl k) = same_row a b node label (h.pred ∙ sym k.pred) (h.edge ∙ sym k.edge) (h.cost ∙ sym k.cost)
-    by (inl h) (inr k) = absurd (k.node (sym node ∙ h.node))
-    by (inr h) (inl k) = absurd (h.node (node ∙ k.node))
-    by (inr h) (inr k) =
-        let link = one_tree b.node h.link k.link (subst (λ v. IsTreeLink int_cmp Has root v h.link) node h.tree) k.tree in
-        same_row a b node label (h.pred ∙ ap (λ (l : LinkOf ℤ). l.from) link ∙ sym k.pred) (h.edge ∙ ap (λ (l : LinkOf ℤ). l.edge) link ∙ sym k.edge)
-        (h.cost ∙ ap (λ (l : LinkOf ℤ). l.cost) link ∙ sym k.cost)
+      label : a.label ≡ b.label
+      label = one_label b.node a.label b.label (subst (λ v. IsLeastLabelFrom Has root v a.label) node is_a.label) is_b.label
+
+      by : IsRootRow root a ⊎ IsTreeRow int_cmp Has root a → IsRootRow root b ⊎ IsTreeRow int_cmp Has root b → a ≡ b
+      by (inl h) (inl k) = same_row a b node label (h.pred ∙ sym k.pred) (h.edge ∙ sym k.edge) (h.cost ∙ sym k.cost)
+      by (inl h) (inr k) = absurd (k.node (sym node ∙ h.node))
+      by (inr h) (inl k) = absurd (h.node (node ∙ k.node))
+      by (inr h) (inr k) =
+          let link = one_tree b.node h.link k.link (subst (λ v. IsTreeLink int_cmp Has root v h.link) node h.tree) k.tree in
+          same_row a b node label (h.pred ∙ ap (λ (l : LinkOf ℤ). l.from) link ∙ sym k.pred) (h.edge ∙ ap (λ (l : LinkOf ℤ). l.edge) link ∙ sym k.edge)
+          (h.cost ∙ ap (λ (l : LinkOf ℤ). l.cost) link ∙ sym k.cost)
 
   -- a row of the one list is one of the other
   stands : (limit : ℕ) (rows others : List (ReachedOf ℤ)) → AreWithin int_cmp Has root limit rows → AreWithin int_cmp Has root limit others
@@ -79,10 +79,10 @@ module _ (Has : LinkOf ℤ → Type 0) (root : ℤ) where
       let is : IsRowWithin int_cmp Has root limit row = All-contains (IsRowWithin int_cmp Has root limit) rows row are.each has in
       among is (also.every row.node row.label is.label is.within)
     where
-    among : IsRowWithin int_cmp Has root limit row → Any (λ other. other.node ≡ row.node) others → Contains others row
-    among is (k, other, inside, at, node) =
-        let has_other : Contains others other = (k, inside, at) in
-        subst (Contains others) (one_row limit other row (All-contains (IsRowWithin int_cmp Has root limit) others other also.each has_other) is node) has_other
+      among : IsRowWithin int_cmp Has root limit row → Any (λ other. other.node ≡ row.node) others → Contains others row
+      among is (k, other, inside, at, node) =
+          let has_other : Contains others other = (k, inside, at) in
+          subst (Contains others) (one_row limit other row (All-contains (IsRowWithin int_cmp Has root limit) others other also.each has_other) is node) has_other
 
   -- one list of rows
   pub one_within : (limit : ℕ) (rows others : List (ReachedOf ℤ)) → AreWithin int_cmp Has root limit rows → AreWithin int_cmp Has root limit others → rows ≡ others
@@ -113,11 +113,11 @@ same_filter keeps other [] same = refl
 same_filter keeps other (row ∷ rows) same =
     by (keeps row) (other row) (same row (0, omega arith, refl)) (same_filter keeps other rows (λ r (k, inside, is). same r (suc k, omega arith, is)))
   where
-  by : (a b : Bool) → a ≡ b → filter keeps rows ≡ filter other rows → cond a (row ∷ filter keeps rows) (filter keeps rows) ≡ cond b (row ∷ filter other rows) (filter other rows)
-  by true true e rest = ap (λ l. row ∷ l) rest
-  by false false e rest = rest
-  by true false e rest = absurd cc
-  by false true e rest = absurd cc
+    by : (a b : Bool) → a ≡ b → filter keeps rows ≡ filter other rows → cond a (row ∷ filter keeps rows) (filter keeps rows) ≡ cond b (row ∷ filter other rows) (filter other rows)
+    by true true e rest = ap (λ l. row ∷ l) rest
+    by false false e rest = rest
+    by true false e rest = absurd cc
+    by false true e rest = absurd cc
 
 -- tests are the same where they are true for the same reason
 same_test : (a b : Bool) → (a ≡ true → b ≡ true) → (b ≡ true → a ≡ true) → a ≡ b
@@ -129,16 +129,16 @@ same_test false false into back = refl
 one_closest : (lists shown others : List (Rooted ℤ)) → AreClosest int_cmp lists shown → AreClosest int_cmp lists others → shown ≡ others
 one_closest lists shown others a b = a.lists ∙ same lists (λ list has. has) ∙ sym b.lists
   where
-  same : (some : List (Rooted ℤ)) → ((list : Rooted ℤ) → Contains some list → Contains lists list) → map (with_kept a.keeps) some ≡ map (with_kept b.keeps) some
-  same [] among = refl
-  same (list ∷ some) among =
-      let has = among list (0, omega arith, refl) in
-      let rows = same_filter (a.keeps list.0) (b.keeps list.0) list.1 (λ row has_row.
-          let of_a = a.exactly list.0 list.1 row has has_row in
-          let of_b = b.exactly list.0 list.1 row has has_row in
-          same_test (a.keeps list.0 row) (b.keeps list.0 row) (λ e. of_b.1 (of_a.0 e)) (λ e. of_a.1 (of_b.0 e))) in
-      let rest = same some (λ l (k, inside, is). among l (suc k, omega arith, is)) in
-      λ i. (list.0, rows i) ∷ rest i
+    same : (some : List (Rooted ℤ)) → ((list : Rooted ℤ) → Contains some list → Contains lists list) → map (with_kept a.keeps) some ≡ map (with_kept b.keeps) some
+    same [] among = refl
+    same (list ∷ some) among =
+        let has = among list (0, omega arith, refl) in
+        let rows = same_filter (a.keeps list.0) (b.keeps list.0) list.1 (λ row has_row.
+        let of_a = a.exactly list.0 list.1 row has has_row in
+        let of_b = b.exactly list.0 list.1 row has has_row in
+        same_test (a.keeps list.0 row) (b.keeps list.0 row) (λ e. of_b.1 (of_a.0 e)) (λ e. of_a.1 (of_b.0 e))) in
+        let rest = same some (λ l (k, inside, is). among l (suc k, omega arith, is)) in
+        λ i. (list.0, rows i) ∷ rest i
 
 -- one choice of rows that are shown
 one_shown : (equicost : Bool) (lists shown others : List (Rooted ℤ)) → AreShown int_cmp equicost lists shown → AreShown int_cmp equicost lists others → shown ≡ others

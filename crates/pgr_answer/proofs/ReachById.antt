@@ -1,5 +1,5 @@
 -- The rows of reached vertices by number are those by id.
-use Rattle.std.proofs.Common.{◌≡◌, ◌≢◌, ◌⊎◌, inl, inr, ⊎_elim, ℕ, zero, suc, ◌<◌, ◌≤◌, List, [], ◌∷◌, map, length, get_or, refl, sym, ap, ◌∙◌, subst, rules, arith, Ordering, Less}
+use Rattle.std.proofs.Common.{◌≡◌, inl, inr, ⊎_elim, ℕ, zero, suc, ◌<◌, List, [], ◌∷◌, map, length, get_or, refl, sym, ap, ◌∙◌, subst, rules, arith, Ordering, Less}
 use Rattle.std.proofs.lemmas.Grind.{common_steps}
 use Rattle.std.specs.Prelude.{ℤ, Contains, All, Any}
 use Rattle.std.specs.Ordering.{nat_cmp, int_cmp, ordering_then}
@@ -9,14 +9,14 @@ use Rattle.std.proofs.lemmas.List.Elements.{All-contains, All-map, All-nil, All-
 use Rattle.pgr_outside.specs.Lists.{IsStrictlyRising}
 use Rattle.pgr_walks.specs.declared.link.LinkOf.{LinkOf}
 use Rattle.pgr_walks.specs.declared.label.Label.{Label}
-use Rattle.pgr_walks.specs.Walk.{IsWalk, IsVertex, cost_of, hops_of}
+use Rattle.pgr_walks.specs.Walk.{IsWalk, cost_of, hops_of}
 use Rattle.pgr_walks.specs.Label.{IsLeastLabelFrom, AtMost, label_of, beyond}
 use Rattle.pgr_walks.specs.Link.{entry_cmp}
 use Rattle.pgr_numbers.specs.Names.{AreEnds, AreNumbered, IsNumbered, id_at, named}
 use Rattle.pgr_numbers.specs.Numbering.{IsNumberedWalk}
 use Rattle.pgr_reach.specs.declared.reach.ReachedOf.{ReachedOf}
 use Rattle.pgr_reach.specs.FromRoot.{IsTightFrom, IsTreeLink}
-use Rattle.pgr_reach.specs.Within.{AreWithin, IsRowWithin, IsRootRow, IsTreeRow, row_cmp}
+use Rattle.pgr_reach.specs.Within.{AreWithin, IsRowWithin, row_cmp}
 use Rattle.pgr_answer.specs.Rooted.{named_row, IsRowBelow}
 
 -- an element of a mapped list is the image of one
@@ -54,8 +54,8 @@ mapped_rise {X = X} cmp next f e xs kept rise i j d before inside =
     ∙ (ap (λ b. next (f (get_or xs i e)) b) (get_or-map f xs j e d j_in)
     ∙ (kept (get_or xs i e) (get_or xs j e) (i, i_in, same_default xs i e i_in) (j, j_in, same_default xs j e j_in) ∙ rise i j e before j_in))
   where
-  same_default : (xs : List X) (k : ℕ) (e : X) → k < length xs → get_or xs k (get_or xs k e) ≡ get_or xs k e
-  same_default xs k e inside = search (rules, arith, common_steps)
+    same_default : (xs : List X) (k : ℕ) (e : X) → k < length xs → get_or xs k (get_or xs k e) ≡ get_or xs k e
+    same_default xs k e inside = search (rules, arith, common_steps)
 
 -- labels with the same parts
 same_label : (a b : Label) → a.cost ≡ b.cost → a.hops ≡ b.hops → a ≡ b
@@ -65,14 +65,13 @@ module _ (names : List ℤ) (links : List (LinkOf ℤ)) (numbers : List (LinkOf 
     (ends : AreEnds links names)
     (numbered : AreNumbered names links numbers)
     (walk_named : (s t : ℕ) (walk : List (LinkOf ℕ)) → AreNumbered names links numbers → IsWalk (Contains numbers) s walk t
-          → IsWalk (Contains links) (id_at names s) (map (named names) walk) (id_at names t))
+    → IsWalk (Contains links) (id_at names s) (map (named names) walk) (id_at names t))
     (walk_numbered : (s t : ℕ) (walk : List (LinkOf ℤ)) → AreNumbered names links numbers → s < length names → t < length names
-      → IsWalk (Contains links) (id_at names s) walk (id_at names t) → (w : List (LinkOf ℕ)) × IsNumberedWalk names numbers s t walk w)
+    → IsWalk (Contains links) (id_at names s) walk (id_at names t) → (w : List (LinkOf ℕ)) × IsNumberedWalk names numbers s t walk w)
     (cost_kept : (walk : List (LinkOf ℕ)) → cost_of (map (named names) walk) ≡ cost_of walk)
     (hops_kept : (walk : List (LinkOf ℕ)) → hops_of (map (named names) walk) ≡ hops_of walk)
     (order_kept : (m n : ℕ) → IsStrictlyRising int_cmp names → m < length names → n < length names → int_cmp (id_at names m) (id_at names n) ≡ nat_cmp m n)
     (one_number : (m n : ℕ) → IsStrictlyRising int_cmp names → m < length names → n < length names → id_at names m ≡ id_at names n → m ≡ n) where
-
   label_kept : (walk : List (LinkOf ℕ)) → label_of (map (named names) walk) ≡ label_of walk
   label_kept walk = same_label _ _ (cost_kept walk) (hops_kept walk)
 
@@ -83,26 +82,26 @@ module _ (names : List ℤ) (links : List (LinkOf ℤ)) (numbers : List (LinkOf 
 
   -- labels by number are labels by id
   label_named : (root v : ℕ) (label : Label) → root < length names → IsLeastLabelFrom (Contains numbers) root v label
-        → IsLeastLabelFrom (Contains links) (id_at names root) (id_at names v) label
+      → IsLeastLabelFrom (Contains links) (id_at names root) (id_at names v) label
   label_named root v label below least = record {
     walk = map (named names) least.walk;
     is_walk = walk_named root v least.walk numbered least.is_walk;
     label_is = label_kept least.walk ∙ least.label_is;
     least = λ other is_walk.
-      let found = walk_numbered root v other numbered below (ends_at_name root least.walk v below least.is_walk) is_walk in
-      subst (AtMost label) (sym (label_kept found.0) ∙ ap label_of found.1.same) (least.least found.0 found.1.is_walk);
+        let found = walk_numbered root v other numbered below (ends_at_name root least.walk v below least.is_walk) is_walk in
+        subst (AtMost label) (sym (label_kept found.0) ∙ ap label_of found.1.same) (least.least found.0 found.1.is_walk);
   }
 
   label_numbered : (root v : ℕ) (label : Label) → root < length names → v < length names → IsLeastLabelFrom (Contains links) (id_at names root) (id_at names v) label
-        → IsLeastLabelFrom (Contains numbers) root v label
+      → IsLeastLabelFrom (Contains numbers) root v label
   label_numbered root v label below v_below least =
-    let found = walk_numbered root v least.walk numbered below v_below least.is_walk in
-    record {
-      walk = found.0;
-      is_walk = found.1.is_walk;
-      label_is = sym (label_kept found.0) ∙ ap label_of found.1.same ∙ least.label_is;
-      least = λ other is_walk. subst (AtMost label) (label_kept other) (least.least (map (named names) other) (walk_named root v other numbered is_walk));
-    }
+      let found = walk_numbered root v least.walk numbered below v_below least.is_walk in
+      record {
+        walk = found.0;
+        is_walk = found.1.is_walk;
+        label_is = sym (label_kept found.0) ∙ ap label_of found.1.same ∙ least.label_is;
+        least = λ other is_walk. subst (AtMost label) (label_kept other) (least.least (map (named names) other) (walk_named root v other numbered is_walk));
+      }
 
   -- a named link is one of the numbered ones
   link_named : (link : LinkOf ℕ) → Contains numbers link → Contains links (named names link)
@@ -132,7 +131,7 @@ module _ (names : List ℤ) (links : List (LinkOf ℤ)) (numbers : List (LinkOf 
 
     -- tree links by number are tree links by id
     tree_named : (v : ℕ) (link : LinkOf ℕ) → IsTreeLink nat_cmp (Contains numbers) root v link
-          → IsTreeLink int_cmp (Contains links) (id_at names root) (id_at names v) (named names link)
+        → IsTreeLink int_cmp (Contains links) (id_at names root) (id_at names v) (named names link)
     tree_named v link tree = record {
       has = link_named link tree.has;
       leads = ap (id_at names) tree.leads;
@@ -140,33 +139,34 @@ module _ (names : List ℤ) (links : List (LinkOf ℤ)) (numbers : List (LinkOf 
       least = λ other has leads tight less. among other (link_numbered other has) leads tight less;
     }
       where
-      in_link : IsNumbered names link
-      in_link = All-contains (IsNumbered names) numbers link numbered.ends tree.has
-      among : (other : LinkOf ℤ) → (number : LinkOf ℕ) × (Contains numbers number × (named names number ≡ other)) → other.to ≡ id_at names v
+        in_link : IsNumbered names link
+        in_link = All-contains (IsNumbered names) numbers link numbered.ends tree.has
+
+        among : (other : LinkOf ℤ) → (number : LinkOf ℕ) × (Contains numbers number × (named names number ≡ other)) → other.to ≡ id_at names v
             → IsTightFrom (Contains links) (id_at names root) other → entry_cmp int_cmp other (named names link) ≡ Less → ⊥
-      among other (number, (has, is)) leads tight less =
-          let in_number : IsNumbered names number = All-contains (IsNumbered names) numbers number numbered.ends has in
-          let to_v : number.to ≡ v = one_number number.to v numbered.rise in_number.1 (subst (λ x. x < length names) tree.leads in_link.1) (ap (λ l. l.to) is ∙ leads) in
-          let tight' = tight_numbered number in_number (subst (IsTightFrom (Contains links) (id_at names root)) (sym is) tight) in
-          tree.least number has to_v tight' (sym (entry_kept number link in_number in_link) ∙ ap (λ l. entry_cmp int_cmp l (named names link)) is ∙ less)
+        among other (number, (has, is)) leads tight less =
+            let in_number : IsNumbered names number = All-contains (IsNumbered names) numbers number numbered.ends has in
+            let to_v : number.to ≡ v = one_number number.to v numbered.rise in_number.1 (subst (λ x. x < length names) tree.leads in_link.1) (ap (λ l. l.to) is ∙ leads) in
+            let tight' = tight_numbered number in_number (subst (IsTightFrom (Contains links) (id_at names root)) (sym is) tight) in
+            tree.least number has to_v tight' (sym (entry_kept number link in_number in_link) ∙ ap (λ l. entry_cmp int_cmp l (named names link)) is ∙ less)
 
     -- one row
     row_named : (limit : ℕ) (row : ReachedOf ℕ) → IsRowWithin nat_cmp (Contains numbers) root limit row
-          → IsRowWithin int_cmp (Contains links) (id_at names root) limit (named_row names row)
+        → IsRowWithin int_cmp (Contains links) (id_at names root) limit (named_row names row)
     row_named limit row is = record {
       label = label_named root row.node row.label below is.label;
       within = is.within;
       link = ⊎_elim
-        (λ at_root. inl (record { node = ap (id_at names) at_root.node; pred = ap (id_at names) at_root.pred; edge = at_root.edge; cost = at_root.cost }))
-        (λ in_tree. inr (record {
-          node = λ e. in_tree.node (one_number row.node root numbered.rise (ends_at_name root is.label.walk row.node below is.label.is_walk) below e);
-          link = named names in_tree.link;
-          tree = tree_named row.node in_tree.link in_tree.tree;
-          pred = ap (id_at names) in_tree.pred;
-          edge = in_tree.edge;
-          cost = in_tree.cost;
-        }))
-        is.link;
+          (λ at_root. inl (record { node = ap (id_at names) at_root.node; pred = ap (id_at names) at_root.pred; edge = at_root.edge; cost = at_root.cost }))
+          (λ in_tree. inr (record {
+            node = λ e. in_tree.node (one_number row.node root numbered.rise (ends_at_name root is.label.walk row.node below is.label.is_walk) below e);
+            link = named names in_tree.link;
+            tree = tree_named row.node in_tree.link in_tree.tree;
+            pred = ap (id_at names) in_tree.pred;
+            edge = in_tree.edge;
+            cost = in_tree.cost;
+          }))
+          is.link;
     }
 
     -- all rows
@@ -175,38 +175,43 @@ module _ (names : List ℤ) (links : List (LinkOf ℤ)) (numbers : List (LinkOf 
     within_by_ids limit rows are = record {
       each = All-map (IsRowWithin int_cmp (Contains links) (id_at names root) limit) (named_row names) rows (All-follows _ _ rows (row_named limit) are.each);
       every = λ v label least within.
-        let number = name_of v least in
-        let least' : IsLeastLabelFrom (Contains links) (id_at names root) (id_at names number.0) label =
+          let number = name_of v least in
+          let least' : IsLeastLabelFrom (Contains links) (id_at names root) (id_at names number.0) label =
           subst (λ x. IsLeastLabelFrom (Contains links) (id_at names root) x label) (sym number.1.1) least in
-        Any-map (λ row. row.node ≡ v) (named_row names) rows
+          Any-map (λ row. row.node ≡ v) (named_row names) rows
           (Any-follows _ _ rows (λ row is. ap (id_at names) is ∙ number.1.1) (are.every number.0 label (label_numbered root number.0 label below number.1.0 least') within));
       rise = mapped_rise (row_cmp nat_cmp) (row_cmp int_cmp) (named_row names) no_row rows kept are.rise;
     }
       where
-      no_row : ReachedOf ℕ
-      no_row = record { node = 0; label = record { cost = 0; hops = 0 }; pred = 0; edge = pos 0; cost = 0 }
-      row_below : (row : ReachedOf ℕ) → Contains rows row → row.node < length names
-      row_below row has = let is : IsRowWithin nat_cmp (Contains numbers) root limit row =
-          All-contains (IsRowWithin nat_cmp (Contains numbers) root limit) rows row are.each has in
-          ends_at_name root is.label.walk row.node below is.label.is_walk
-      kept : (a b : ReachedOf ℕ) → Contains rows a → Contains rows b → row_cmp int_cmp (named_row names a) (named_row names b) ≡ row_cmp nat_cmp a b
-      kept a b in_a in_b = ap (ordering_then (nat_cmp a.label.cost b.label.cost)) (order_kept a.node b.node numbered.rise (row_below a in_a) (row_below b in_b))
-      at_place : (v : ℤ) → Contains names v → (number : ℕ) × ((number < length names) × (id_at names number ≡ v))
-      at_place v (k, inside, is) = (k, (inside, search (rules, arith, common_steps)))
-      end_of : (s : ℤ) (walk : List (LinkOf ℤ)) (v : ℤ) → Contains names s → IsWalk (Contains links) s walk v → Contains names v
-      end_of s [] v has is_walk = subst (Contains names) is_walk has
-      end_of s (link ∷ rest) v has is_walk = end_of link.to rest v ((ends.ends link.to).1 (link, is_walk.0, inr refl)) is_walk.2
-      name_of : (v : ℤ) → {label : Label} → IsLeastLabelFrom (Contains links) (id_at names root) v label → (number : ℕ) × ((number < length names) × (id_at names number ≡ v))
-      name_of v least = at_place v (end_of (id_at names root) least.walk v (root, below, search (rules, arith, common_steps)) least.is_walk)
+        no_row : ReachedOf ℕ
+        no_row = record { node = 0; label = record { cost = 0; hops = 0 }; pred = 0; edge = pos 0; cost = 0 }
+
+        row_below : (row : ReachedOf ℕ) → Contains rows row → row.node < length names
+        row_below row has = let is : IsRowWithin nat_cmp (Contains numbers) root limit row =
+            All-contains (IsRowWithin nat_cmp (Contains numbers) root limit) rows row are.each has in
+            ends_at_name root is.label.walk row.node below is.label.is_walk
+
+        kept : (a b : ReachedOf ℕ) → Contains rows a → Contains rows b → row_cmp int_cmp (named_row names a) (named_row names b) ≡ row_cmp nat_cmp a b
+        kept a b in_a in_b = ap (ordering_then (nat_cmp a.label.cost b.label.cost)) (order_kept a.node b.node numbered.rise (row_below a in_a) (row_below b in_b))
+
+        at_place : (v : ℤ) → Contains names v → (number : ℕ) × ((number < length names) × (id_at names number ≡ v))
+        at_place v (k, inside, is) = (k, (inside, search (rules, arith, common_steps)))
+
+        end_of : (s : ℤ) (walk : List (LinkOf ℤ)) (v : ℤ) → Contains names s → IsWalk (Contains links) s walk v → Contains names v
+        end_of s [] v has is_walk = subst (Contains names) is_walk has
+        end_of s (link ∷ rest) v has is_walk = end_of link.to rest v ((ends.ends link.to).1 (link, is_walk.0, inr refl)) is_walk.2
+
+        name_of : (v : ℤ) → {label : Label} → IsLeastLabelFrom (Contains links) (id_at names root) v label → (number : ℕ) × ((number < length names) × (id_at names number ≡ v))
+        name_of v least = at_place v (end_of (id_at names root) least.walk v (root, below, search (rules, arith, common_steps)) least.is_walk)
 
     -- the vertices of all rows are numbers of names
     pub rows_below : (limit : ℕ) (rows : List (ReachedOf ℕ)) → AreWithin nat_cmp (Contains numbers) root limit rows → (row : ReachedOf ℕ) → Contains rows row
-          → IsRowBelow (length names) row
+        → IsRowBelow (length names) row
     rows_below limit rows are row has =
         let is : IsRowWithin nat_cmp (Contains numbers) root limit row = All-contains (IsRowWithin nat_cmp (Contains numbers) root limit) rows row are.each has in (
           ends_at_name root is.label.walk row.node below is.label.is_walk,
           ⊎_elim
-            (λ at_root. subst (λ n. n < length names) (sym at_root.pred) below)
-            (λ in_tree. subst (λ n. n < length names) (sym in_tree.pred) (All-contains (IsNumbered names) numbers in_tree.link numbered.ends in_tree.tree.has).0)
-            is.link,
+              (λ at_root. subst (λ n. n < length names) (sym at_root.pred) below)
+              (λ in_tree. subst (λ n. n < length names) (sym in_tree.pred) (All-contains (IsNumbered names) numbers in_tree.link numbered.ends in_tree.tree.has).0)
+              is.link,
         )

@@ -1,7 +1,7 @@
 -- Tables of reached vertices, a row and a root at a time.
-use Rattle.std.proofs.Common.{◌≡◌, ℕ, ℤ, suc, ◌+◌, ◌<◌, ◌≤◌, List, [], ◌∷◌, ◌++◌, length, take, get_or, map, refl, sym, ap, ◌∙◌, arith, append_assoc, append-nil}
+use Rattle.std.proofs.Common.{◌≡◌, ℕ, ℤ, suc, ◌+◌, ◌<◌, List, [], ◌∷◌, ◌++◌, length, take, get_or, map, refl, sym, ap, ◌∙◌, arith, append_assoc, append-nil}
 use Rattle.std.specs.Prelude.{flat_map}
-use Rattle.std.proofs.lemmas.List.{take_more, take_all, length-append, map-append}
+use Rattle.std.proofs.lemmas.List.{take_more, length-append, map-append}
 use Rattle.std.proofs.lemmas.List.Concat.{flat_map-append}
 use Rattle.pgr_reach.specs.declared.reach.ReachedOf.{ReachedOf}
 use Rattle.pgr_reach.specs.declared.reach.Reach.{Reach}
@@ -48,8 +48,8 @@ row_more old root names rows i d now new len row inside so_far len_is row_is pus
     let before = show (take i rows) in
     let last : ReachRow = reach_row root (named_row names (get_or rows i d)) in
     let longer : show (take (i + 1) rows) ≡ before ++ last ∷ [] =
-        ap show (take_more rows i d inside) ∙ ap (map (reach_row root)) (map-append (named_row names) (take i rows) (get_or rows i d ∷ []))
-        ∙ map-append (reach_row root) (map (named_row names) (take i rows)) (named_row names (get_or rows i d) ∷ []) in
+    ap show (take_more rows i d inside) ∙ ap (map (reach_row root)) (map-append (named_row names) (take i rows) (get_or rows i d ∷ []))
+    ∙ map-append (reach_row root) (map (named_row names) (take i rows)) (named_row names (get_or rows i d) ∷ []) in
     pushed
     ∙ ap (λ r. now ++ r ∷ []) (row_is ∙ ap (λ (m : ℕ). record last { seq = m + 1 }) len_is)
     ∙ ap (λ (rs : List ReachRow). rs ++ record last { seq = length rs + 1 } ∷ []) so_far
@@ -79,10 +79,10 @@ reaches_more names reaches i d now new inside so_far pushed =
     let before = flat_map reach_rows (show (take i reaches)) in
     let next = reach_rows (named_list names (listed (get_or reaches i d))) in
     let longer : flat_map reach_rows (show (take (i + 1) reaches)) ≡ before ++ next =
-        ap (λ rs. flat_map reach_rows (show rs)) (take_more reaches i d inside)
-        ∙ ap (flat_map reach_rows) (map-append (λ reach. named_list names (listed reach)) (take i reaches) (get_or reaches i d ∷ []))
-        ∙ flat_map-append reach_rows (show (take i reaches)) (named_list names (listed (get_or reaches i d)) ∷ [])
-        ∙ ap (λ l. before ++ l) (append-nil next) in
+    ap (λ rs. flat_map reach_rows (show rs)) (take_more reaches i d inside)
+    ∙ ap (flat_map reach_rows) (map-append (λ reach. named_list names (listed reach)) (take i reaches) (get_or reaches i d ∷ []))
+    ∙ flat_map-append reach_rows (show (take i reaches)) (named_list names (listed (get_or reaches i d)) ∷ [])
+    ∙ ap (λ l. before ++ l) (append-nil next) in
     let numbers : length now + 1 ≡ 1 + length before = omega (arith, ap length so_far, length-reaches_from 1 before) in
     pushed
     ∙ ap (λ (rs : List ReachRow). rs ++ reaches_from (length now + 1) next) so_far

@@ -1,5 +1,5 @@
 -- Roots with the vertices within the distance, by number, are a table of driving distance over the links of the edges.
-use Rattle.std.proofs.Common.{◌≡◌, ◌⊎◌, inl, inr, ℕ, ◌<◌, Bool, true, false, List, [], ◌∷◌, map, length, get_or, refl, sym, ap, ◌∙◌, subst, rules, arith}
+use Rattle.std.proofs.Common.{◌≡◌, ℕ, ◌<◌, Bool, true, false, List, [], ◌∷◌, map, length, get_or, refl, sym, ap, ◌∙◌, subst, rules, arith}
 use Rattle.std.proofs.lemmas.Grind.{common_steps}
 use Rattle.std.specs.Prelude.{◌↔◌, ℤ, pos, All, Contains}
 use Rattle.std.specs.Ordering.{nat_cmp, int_cmp}
@@ -12,7 +12,6 @@ use Rattle.pgr_numbers.specs.Names.{AreEnds, AreNumbered, id_at, named}
 use Rattle.pgr_numbers.specs.Numbering.{IsNumberedWalk, HasExactly}
 use Rattle.pgr_rows.specs.declared.rows.Rows.{Rows}
 use Rattle.pgr_rows.specs.declared.rows.Rows.TheVariants.{Reaches}
-use Rattle.pgr_reach.specs.declared.reach.ReachedOf.{ReachedOf}
 use Rattle.pgr_reach.specs.declared.reach.Reach.{Reach}
 use Rattle.pgr_reach.specs.Within.{AreWithin}
 use Rattle.pgr_reach.specs.Equicost.{listed}
@@ -42,9 +41,9 @@ module _ (names : List ℤ) (links : List (LinkOf ℤ)) (numbers : List (LinkOf 
     (numbered : AreNumbered names links numbers)
     (exactly : HasExactly size ins numbers)
     (walk_named : (s t : ℕ) (walk : List (LinkOf ℕ)) → AreNumbered names links numbers → IsWalk (Contains numbers) s walk t
-      → IsWalk (Contains links) (id_at names s) (map (named names) walk) (id_at names t))
+    → IsWalk (Contains links) (id_at names s) (map (named names) walk) (id_at names t))
     (walk_numbered : (s t : ℕ) (walk : List (LinkOf ℤ)) → AreNumbered names links numbers → s < length names → t < length names
-      → IsWalk (Contains links) (id_at names s) walk (id_at names t) → (w : List (LinkOf ℕ)) × IsNumberedWalk names numbers s t walk w)
+    → IsWalk (Contains links) (id_at names s) walk (id_at names t) → (w : List (LinkOf ℕ)) × IsNumberedWalk names numbers s t walk w)
     (cost_kept : (walk : List (LinkOf ℕ)) → cost_of (map (named names) walk) ≡ cost_of walk)
     (hops_kept : (walk : List (LinkOf ℕ)) → hops_of (map (named names) walk) ≡ hops_of walk)
     (order_kept : (m n : ℕ) → IsStrictlyRising int_cmp names → m < length names → n < length names → int_cmp (id_at names m) (id_at names n) ≡ nat_cmp m n)
@@ -114,10 +113,10 @@ module _ (names : List ℤ) (links : List (LinkOf ℤ)) (numbers : List (LinkOf 
     ids_of_roots : (id : ℤ) → Contains (map (id_at names) roots) id ↔ (Contains starts id × IsVertex P id)
     ids_of_roots id = (
       λ has.
-        let found = mapped (id_at names) roots id has in
-        let is = (are_roots found.0).0 found.1.0 in
-        let among : Contains names id = subst (Contains names) found.1.1 (Contains-get_or names found.0 (pos 0) is.0) in
-        (subst (Contains starts) found.1.1 is.1, (vertex_over id).0 ((ends.ends id).0 among)),
+          let found = mapped (id_at names) roots id has in
+          let is = (are_roots found.0).0 found.1.0 in
+          let among : Contains names id = subst (Contains names) found.1.1 (Contains-get_or names found.0 (pos 0) is.0) in
+          (subst (Contains starts) found.1.1 is.1, (vertex_over id).0 ((ends.ends id).0 among)),
       λ both. into id both.0 ((ends.ends id).1 ((vertex_over id).1 both.1)),
     )
 
@@ -125,18 +124,18 @@ module _ (names : List ℤ) (links : List (LinkOf ℤ)) (numbers : List (LinkOf 
     reaches_named : AreReaches P starts distance (map (named_list names) (map listed reaches))
     reaches_named =
         let ids : map (λ (list : Rooted ℤ). list.0) (map (named_list names) (map listed reaches)) ≡ map (id_at names) roots =
-          roots_named names (map listed reaches) ∙ ap (map (id_at names)) old_roots in
+        roots_named names (map listed reaches) ∙ ap (map (id_at names)) old_roots in
         record {
           roots = λ id. subst (λ ls. Contains ls id ↔ (Contains starts id × IsVertex P id)) (sym ids) (ids_of_roots id);
           rise = subst (IsStrictlyRising int_cmp) (sym ids) (mapped_rise nat_cmp int_cmp (id_at names) 0 roots
               (λ a b in_a in_b. order a b ((are_roots a).0 in_a).0 ((are_roots b).0 in_b).0) rise);
           within = λ list has.
-            let found = mapped (named_list names) (map listed reaches) list has in
-            let number = found.0 in
-            let by_ids = within_by_ids names links numbers ends numbered walk_named walk_numbered cost_kept hops_kept order_kept one_number
+              let found = mapped (named_list names) (map listed reaches) list has in
+              let number = found.0 in
+              let by_ids = within_by_ids names links numbers ends numbered walk_named walk_numbered cost_kept hops_kept order_kept one_number
               number.0 (root_below number found.1.0) distance number.1 (old_within number found.1.0) in
-            let over = within-over int_cmp (Contains links) P same (id_at names number.0) distance (map (named_row names) number.1) by_ids in
-            subst (λ (l : Rooted ℤ). AreWithin int_cmp P l.0 distance l.1) found.1.1 over;
+              let over = within-over int_cmp (Contains links) P same (id_at names number.0) distance (map (named_row names) number.1) by_ids in
+              subst (λ (l : Rooted ℤ). AreWithin int_cmp P l.0 distance l.1) found.1.1 over;
         }
 
     -- the table

@@ -1,6 +1,6 @@
 -- The vertices within a cost of a root, over another set with the same links.
-use Rattle.std.proofs.Common.{◌≡◌, ⊎_elim, inl, inr, List}
-use Rattle.std.specs.Prelude.{◌↔◌, ℕ, All}
+use Rattle.std.proofs.Common.{⊎_elim, inl, inr, List}
+use Rattle.std.specs.Prelude.{◌↔◌, ℕ}
 use Rattle.std.specs.declared.cmp.Ordering.{Ordering}
 use Rattle.pgr_walks.specs.declared.link.LinkOf.{LinkOf}
 use Rattle.pgr_walks.specs.declared.label.Label.{Label}

@@ -1,5 +1,5 @@
 -- Roots with the vertices that are reached from them, by number, as those by id.
-use Rattle.std.specs.Prelude.{ℕ, ◌<◌, ℤ, List, length, map, Contains}
+use Rattle.std.specs.Prelude.{ℕ, ◌<◌, ℤ, List, map, Contains}
 use Rattle.pgr_numbers.specs.Names.{id_at}
 use Rattle.pgr_reach.specs.declared.reach.ReachedOf.{ReachedOf}
 use Rattle.pgr_answer.specs.DrivingDistance.{Rooted}

@@ -81,11 +81,7 @@ fn reaches_of<G: Graph>(
 }
 
 /// Leaves each vertex under its closest root alone, where that is asked for.
-fn leave_shown(
-    alloc: Global,
-    closest_alone: bool,
-    reaches: &mut Vec<Reach>,
-) -> Result<(), NoMemory>
+fn leave_shown(alloc: Global, closest_alone: bool, reaches: &mut Vec<Reach>) -> Result<(), NoMemory>
     ensures { OnOk result (AreShown nat_cmp closest_alone (map listed reaches.old.items) (map listed reaches.new.items)) }
 {
     if closest_alone {

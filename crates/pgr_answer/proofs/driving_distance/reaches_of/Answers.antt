@@ -1,9 +1,8 @@
 -- Each root adds the vertices within the distance of it.
-use Rattle.std.proofs.Common.{◌≡◌, ◌∙◌, ◌<◌, rules, length, get_or, arith, subst, sym}
+use Rattle.std.proofs.Common.{◌∙◌, ◌<◌, length, get_or, arith}
 use Rattle.std.specs.Ordering.{nat_cmp}
 use Rattle.std.proofs.lemmas.List.{take_all}
-use Rattle.std.proofs.lemmas.List.Elements.{All-push, All-contains, Contains-get_or}
-use Rattle.std.specs.Prelude.{All}
+use Rattle.std.proofs.lemmas.List.Elements.{All-push}
 use Rattle.pgr_walks.specs.LinksOf.{LinksOf}
 use Rattle.pgr_reach.specs.declared.reach.Reach.{Reach}
 use Rattle.pgr_reach.specs.Within.{AreWithin}

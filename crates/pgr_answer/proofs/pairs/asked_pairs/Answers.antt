@@ -12,7 +12,7 @@ returns-clause-exactly c =
     let asked = gained_is_asked names c.args.starts.now c.args.ends.now c.args.combinations.now c.as_slice.result.now c.as_slice-2.result.now _ _ _ c.new-pairs.ensures.items
     (rw c.as_slice.ensures.value c.in_ok-starts.ensures) (rw c.as_slice-2.ensures.value c.in_ok-ends.ensures) c.in_ok-push_lists.ensures c.in_ok-push_rows.ensures in
     once_kept pair_cmp pair_total pair_tie _ parts_tie (IsNumberedPair names (IsAsked c.args.starts.now c.args.ends.now c.args.combinations.now))
-        _ _ _ asked c.sort_unstable.ensures.permutation
+    _ _ _ asked c.sort_unstable.ensures.permutation
     (dedup_is _ _ _ c.dedup.ensures.filtered)
 
 pub returns-clause-rise : goal.returns-clause-rise

@@ -1,5 +1,5 @@
 -- The row of each vertex is put behind the rows so far.
-use Rattle.std.proofs.Common.{◌≡◌, ◌∙◌, ◌<◌, ap, map, take, rules, w64, length, arith}
+use Rattle.std.proofs.Common.{◌≡◌, ◌∙◌, ◌<◌, ap, map, take, rules, w64, length}
 use Rattle.std.specs.Prelude.{vec_len}
 use Rattle.std.proofs.lemmas.Int.{to_z-of_z}
 use Rattle.std.proofs.lemmas.List.{take_all}
@@ -28,8 +28,8 @@ returns c =
     let rows = c.args.reach.now.rows.items in
     let names = c.args.names.now in
     let so_far : c.loop-row.rows.items ≡ with_rows c.args.rows.now.items (map (reach_row c.name-root.result) (map (named_row names) (take c.loop-row.row-index rows))) =
-      simp to_z-of_z at c.loop-row.invariant in
+    simp to_z-of_z at c.loop-row.invariant in
     so_far
     ∙ ap (λ rs. with_rows c.args.rows.now.items (map (reach_row c.name-root.result) (map (named_row names) rs)))
-      (take_all c.loop-row.row-index rows (rw c.as_slice-row-items.ensures.value at c.loop-row-test.false))
+    (take_all c.loop-row.row-index rows (rw c.as_slice-row-items.ensures.value at c.loop-row-test.false))
     ∙ ap (λ start. with_rows c.args.rows.now.items (map (reach_row start) (map (named_row names) rows))) c.name-root.ensures.id

@@ -1,5 +1,5 @@
 -- The rows of each root are put behind the rows so far.
-use Rattle.std.proofs.Common.{◌≡◌, ◌∙◌, ap, sym, subst, map, length, arith}
+use Rattle.std.proofs.Common.{◌∙◌, ap, sym, subst, map, length, arith}
 use Rattle.std.proofs.lemmas.List.{take_all}
 use Rattle.pgr_reach.specs.Equicost.{listed}
 use Rattle.pgr_reach.specs.declared.reach.Reach.{Reach}
@@ -21,4 +21,4 @@ pub returns : goal.returns
 returns c =
     c.loop-reach.invariant
     ∙ ap (λ reaches. reach_table (map (λ (reach : Reach). named_list c.args.names.now (listed reach)) reaches))
-      (take_all c.loop-reach.reach-index c.args.reaches.now (omega (arith, c.loop-reach-test.false)))
+    (take_all c.loop-reach.reach-index c.args.reaches.now (omega (arith, c.loop-reach-test.false)))
