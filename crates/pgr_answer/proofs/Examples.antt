@@ -8,6 +8,7 @@ use Rattle.pgr_words.specs.declared.option.OptionName.{OptionName}
 use Rattle.pgr_words.specs.declared.option.OptionName.TheVariants as option
 use Rattle.pgr_words.specs.Commands.{command_with}
 use Rattle.pgr_rows.specs.declared.rows.PathRow.{PathRow}
+use Rattle.pgr_answer.specs.declared.role.Kind.TheVariants as kind
 use Rattle.pgr_answer.specs.declared.role.Role.TheVariants.{Edges, Combinations}
 use Rattle.pgr_answer.specs.declared.refused.Refused.TheVariants.{TooLong}
 use Rattle.pgr_answer.specs.Files.{File, files_of, most_bytes, refusal_of, IsPossible, AreAccepted}
@@ -22,12 +23,13 @@ abbrev both_files : List (OptionName × List ℕ)
 both_files = (option.Edges, codes "e.csv") ∷ (option.Combinations, codes "p.csv") ∷ []
 
 -- the edges are read before the combinations
-the_edges_come_first : files_of (command_with Dijkstra both_files) ≡ record { role = Edges; name = codes "e.csv" } ∷ record { role = Combinations; name = codes "p.csv" } ∷ []
+the_edges_come_first : files_of (command_with Dijkstra both_files) ≡ record { role = Edges; kind = kind.Edges; name = codes "e.csv" }
+    ∷ record { role = Combinations; kind = kind.Combinations; name = codes "p.csv" } ∷ []
 the_edges_come_first = refl
 
 -- a content that is too long is refused so, whatever else is wrong with it
-too_long : (bytes : List ℕ) → nat_lt most_bytes (length bytes) ≡ true → refusal_of Combinations bytes ≡ Some (TooLong Combinations)
-too_long bytes long = rw long refl
+too_long : (file : File) (bytes : List ℕ) → nat_lt most_bytes (length bytes) ≡ true → refusal_of file bytes ≡ Some (TooLong file.role)
+too_long file bytes long = rw long refl
 
 -- where nothing is known of a file, it still has to have a content
 no_contents : (known : List ℕ → Option (List ℕ)) (file : File) → AreAccepted known (file ∷ []) [] → ⊥

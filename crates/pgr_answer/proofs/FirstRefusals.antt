@@ -21,10 +21,10 @@ this_from_outside found refused (inl e) = inr (inl e)
 this_from_outside found refused (inr e) = inr (inr e)
 
 -- what is so of possible bytes of a known content is so of no other verdict
-one_refusal : (content : Option (List ℕ)) (role : Role) (bytes : List ℕ) (verdict other : Option Refused) → IfSome content (λ is. bytes ≡ is) → refusal_of role bytes ≡ verdict
-    → IsSomeAnd content (λ is. refusal_of role is ≡ other) → verdict ≡ other
-one_refusal None role bytes verdict other possible is known = absurd known
-one_refusal (Some content) role bytes verdict other possible is known = sym is ∙ ap (refusal_of role) possible ∙ known
+one_refusal : (content : Option (List ℕ)) (file : File) (bytes : List ℕ) (verdict other : Option Refused) → IfSome content (λ is. bytes ≡ is) → refusal_of file bytes ≡ verdict
+    → IsSomeAnd content (λ is. refusal_of file is ≡ other) → verdict ≡ other
+one_refusal None file bytes verdict other possible is known = absurd known
+one_refusal (Some content) file bytes verdict other possible is known = sym is ∙ ap (refusal_of file) possible ∙ known
 
 -- accepted isn't refused
 not_both : (refused : Refused) → ◌≡◌ {A = Option Refused} None (Some refused) → ⊥
@@ -39,19 +39,19 @@ same_some a b e = cc
 module _ (known : List ℕ → Option (List ℕ)) (before after : List ℕ → ℕ) where
   -- where the known content of a file is refused, a refusal of the file is that one, or comes from outside
   refused_once : (file : File) (found refused : Refused) → IsRefused known before after file found
-      → IsSomeAnd (known file.name) (λ bytes. refusal_of file.role bytes ≡ Some refused) → IsThis found refused
+      → IsSomeAnd (known file.name) (λ bytes. refusal_of file bytes ≡ Some refused) → IsThis found refused
   refused_once file (ReadFailed role) refused is first = inr (inr (role, refl))
-  refused_once file (TooLong role) refused is first = inl (same_some (TooLong role) refused (one_refusal (known file.name) file.role is.bytes _ _ is.possible is.is_refused first))
+  refused_once file (TooLong role) refused is first = inl (same_some (TooLong role) refused (one_refusal (known file.name) file is.bytes _ _ is.possible is.is_refused first))
   refused_once file (Table role fault) refused is first = inl
-      (same_some (Table role fault) refused (one_refusal (known file.name) file.role is.bytes _ _ is.possible is.is_refused first))
+      (same_some (Table role fault) refused (one_refusal (known file.name) file is.bytes _ _ is.possible is.is_refused first))
   refused_once file Memory refused is first = inr (inl refl)
 
   -- where the known content of a file is accepted, a refusal of the file comes from outside
   refused_outside : (file : File) (found : Refused) → IsRefused known before after file found → IsKnownAccepted known file → IsOutside found
   refused_outside file (ReadFailed role) is accepted = inr (role, refl)
-  refused_outside file (TooLong role) is accepted = absurd (not_refused (TooLong role) (one_refusal (known file.name) file.role is.bytes _ _ is.possible is.is_refused accepted))
+  refused_outside file (TooLong role) is accepted = absurd (not_refused (TooLong role) (one_refusal (known file.name) file is.bytes _ _ is.possible is.is_refused accepted))
   refused_outside file (Table role fault) is accepted = absurd
-      (not_refused (Table role fault) (one_refusal (known file.name) file.role is.bytes _ _ is.possible is.is_refused accepted))
+      (not_refused (Table role fault) (one_refusal (known file.name) file is.bytes _ _ is.possible is.is_refused accepted))
   refused_outside file Memory is accepted = inl refl
 
   -- of a list of files, one is refused behind contents that are accepted, and one behind files that are known to be accepted: by where they stand
@@ -61,18 +61,18 @@ module _ (known : List ℕ → Option (List ℕ)) (before after : List ℕ → �
       → All IsAccepted contents
       → IsRefused known before after file found
       → All (IsKnownAccepted known) front
-      → IsSomeAnd (known known_file.name) (λ bytes. refusal_of known_file.role bytes ≡ Some refused)
+      → IsSomeAnd (known known_file.name) (λ bytes. refusal_of known_file bytes ≡ Some refused)
       → IsThis found refused
   first_by_fronts found refused [] file back [] known_file known_back order possible accepted is known_accepted first =
       let same : file ≡ known_file = cc in
-      refused_once file found refused is (subst (λ (f : File). IsSomeAnd (known f.name) (λ bytes. refusal_of f.role bytes ≡ Some refused)) (sym same) first)
+      refused_once file found refused is (subst (λ (f : File). IsSomeAnd (known f.name) (λ bytes. refusal_of f bytes ≡ Some refused)) (sym same) first)
   first_by_fronts found refused [] file back (head ∷ front) known_file known_back order possible accepted is known_accepted first =
       let same : file ≡ head = cc in
       this_from_outside found refused (refused_outside file found is (subst (IsKnownAccepted known) (sym same) (All-head (IsKnownAccepted known) head front known_accepted)))
   first_by_fronts found refused (content ∷ contents) file back [] known_file known_back order possible accepted is known_accepted first =
       let same : content.file ≡ known_file = cc in
-      let here = subst (λ (f : File). IsSomeAnd (known f.name) (λ bytes. refusal_of f.role bytes ≡ Some refused)) (sym same) first in
-      absurd (not_both refused (one_refusal (known content.file.name) content.file.role content.bytes _ _ (All-head (IsPossible known) content contents possible)
+      let here = subst (λ (f : File). IsSomeAnd (known f.name) (λ bytes. refusal_of f bytes ≡ Some refused)) (sym same) first in
+      absurd (not_both refused (one_refusal (known content.file.name) content.file content.bytes _ _ (All-head (IsPossible known) content contents possible)
       (All-head IsAccepted content contents accepted) here))
   first_by_fronts found refused (content ∷ contents) file back (head ∷ front) known_file known_back order possible accepted is known_accepted first =
       let rest : map (λ content. content.file) contents ++ file ∷ back ≡ front ++ known_file ∷ known_back = cc in
@@ -103,13 +103,13 @@ module _ (known : List ℕ → Option (List ℕ)) where
       → map (λ content. content.file) contents ≡ front ++ file ∷ back
       → All (IsPossible known) contents
       → All IsAccepted contents
-      → IsSomeAnd (known file.name) (λ bytes. refusal_of file.role bytes ≡ Some refused) → ⊥
+      → IsSomeAnd (known file.name) (λ bytes. refusal_of file bytes ≡ Some refused) → ⊥
   none_by_front refused [] [] file back order possible accepted first = absurd cc
   none_by_front refused [] (head ∷ front) file back order possible accepted first = absurd cc
   none_by_front refused (content ∷ contents) [] file back order possible accepted first =
       let same : content.file ≡ file = cc in
-      let here = subst (λ (f : File). IsSomeAnd (known f.name) (λ bytes. refusal_of f.role bytes ≡ Some refused)) (sym same) first in
-      not_both refused (one_refusal (known content.file.name) content.file.role content.bytes _ _ (All-head (IsPossible known) content contents possible)
+      let here = subst (λ (f : File). IsSomeAnd (known f.name) (λ bytes. refusal_of f bytes ≡ Some refused)) (sym same) first in
+      not_both refused (one_refusal (known content.file.name) content.file content.bytes _ _ (All-head (IsPossible known) content contents possible)
       (All-head IsAccepted content contents accepted) here)
   none_by_front refused (content ∷ contents) (head ∷ front) file back order possible accepted first =
       let rest : map (λ content. content.file) contents ≡ front ++ file ∷ back = cc in

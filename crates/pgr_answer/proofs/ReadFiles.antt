@@ -17,7 +17,7 @@ use Rattle.pgr_answer.specs.declared.tables.Tables.{Tables}
 use Rattle.pgr_answer.specs.declared.role.Role.{Role}
 use Rattle.pgr_answer.specs.declared.refused.Refused.{Refused}
 use Rattle.pgr_answer.specs.declared.refused.Refused.TheVariants.{ReadFailed, TooLong, Table, Memory}
-use Rattle.pgr_answer.specs.Roles.{file_name_of}
+use Rattle.pgr_answer.specs.Roles.{file_name_of, kind_of}
 use Rattle.pgr_answer.specs.Tables.{judged_as}
 use Rattle.pgr_answer.specs.Contents.{after, with_content}
 use Rattle.pgr_answer.specs.Files.{File, Content, most_bytes, fault_in, refusal_of, IsPossible, IsAccepted, AreAccepted, files_with}
@@ -25,16 +25,16 @@ use Rattle.pgr_answer.specs.Reading.{IsTableRead, AreRead}
 use Rattle.pgr_answer.specs.Refusals.{IsContentRefused, IsRefused, HoldsAmong, from_read, from_table}
 
 -- bytes that are more than a file may have are refused as too long
-refused_long : (role : Role) (bytes : List ℕ) → most_bytes < length bytes → refusal_of role bytes ≡ Some (TooLong role)
-refused_long role bytes long = rw (lt-ltb most_bytes (length bytes) long) refl
+refused_long : (file : File) (bytes : List ℕ) → most_bytes < length bytes → refusal_of file bytes ≡ Some (TooLong file.role)
+refused_long file bytes long = rw (lt-ltb most_bytes (length bytes) long) refl
 
 -- bytes that are no more are accepted where the verdict on them is good
-accepted_short : (role : Role) (bytes : List ℕ) (place : Tables → Tables) → length bytes ≤ most_bytes → judged_as role bytes ≡ Ok place → refusal_of role bytes ≡ None
-accepted_short role bytes place short good = rw (le-ltb most_bytes (length bytes) short, good) refl
+accepted_short : (file : File) (bytes : List ℕ) (place : Tables → Tables) → length bytes ≤ most_bytes → judged_as file.kind bytes ≡ Ok place → refusal_of file bytes ≡ None
+accepted_short file bytes place short good = rw (le-ltb most_bytes (length bytes) short, good) refl
 
 -- and refused by their fault
-refused_short : (role : Role) (bytes : List ℕ) (fault : TableFault) → length bytes ≤ most_bytes → judged_as role bytes ≡ Err fault → refusal_of role bytes ≡ Some (Table role fault)
-refused_short role bytes fault short bad = rw (le-ltb most_bytes (length bytes) short, bad) refl
+refused_short : (file : File) (bytes : List ℕ) (fault : TableFault) → length bytes ≤ most_bytes → judged_as file.kind bytes ≡ Err fault → refusal_of file bytes ≡ Some (Table file.role fault)
+refused_short file bytes fault short bad = rw (le-ltb most_bytes (length bytes) short, bad) refl
 
 module _ (known : List ℕ → Option (List ℕ)) where
   -- of no files there are no contents
@@ -59,7 +59,7 @@ module _ (known : List ℕ → Option (List ℕ)) where
   pub read_one : (file : File) (bytes : List ℕ) (place : Tables → Tables) (old new : Tables)
       → IfSome (known file.name) (λ content. bytes ≡ content)
       → length bytes ≤ most_bytes
-      → judged_as file.role bytes ≡ Ok place
+      → judged_as file.kind bytes ≡ Ok place
       → new ≡ place old
       → AreRead known (file ∷ []) old new
   read_one file bytes place old new possible short good is_new =
@@ -69,7 +69,7 @@ module _ (known : List ℕ → Option (List ℕ)) where
         accepted = record {
           of_files = refl;
           possible = All-cons (IsPossible known) content [] possible (All-nil (IsPossible known));
-          accepted = All-cons IsAccepted content [] (accepted_short file.role bytes place short good) (All-nil IsAccepted);
+          accepted = All-cons IsAccepted content [] (accepted_short file bytes place short good) (All-nil IsAccepted);
         };
         tables = is_new ∙ sym (ap (λ verdict. after verdict old) good);
       }
@@ -87,14 +87,14 @@ module _ (known : List ℕ → Option (List ℕ)) where
       → seen ≡ bytes
       → IfSome (known file.name) (λ content. bytes ≡ content)
       → length bytes ≤ most_bytes
-      → (place : Tables → Tables) × (judged_as file.role seen ≡ Ok place) × (new ≡ place old)
+      → (place : Tables → Tables) × (judged_as file.kind seen ≡ Ok place) × (new ≡ place old)
       → AreRead known (file ∷ []) old new
-  read_of file bytes seen old new same possible short (place, good, is_new) = read_one file bytes place old new possible short (ap (judged_as file.role) (sym same) ∙ good) is_new
+  read_of file bytes seen old new same possible short (place, good, is_new) = read_one file bytes place old new possible short (ap (judged_as file.kind) (sym same) ∙ good) is_new
 
   -- a content with a fault is refused by it
   pub refused_fault : (file : File) (bytes : List ℕ) (fault : TableFault) → IfSome (known file.name) (λ content. bytes ≡ content) → length bytes ≤ most_bytes
-      → judged_as file.role bytes ≡ Err fault → IsContentRefused known file (Table file.role fault)
-  refused_fault file bytes fault possible short bad = record { bytes = bytes; possible = possible; is_refused = refused_short file.role bytes fault short bad }
+      → judged_as file.kind bytes ≡ Err fault → IsContentRefused known file (Table file.role fault)
+  refused_fault file bytes fault possible short bad = record { bytes = bytes; possible = possible; is_refused = refused_short file bytes fault short bad }
 
   -- where a known content is too long, there is one that is refused so
   refused_too_long : (file : File) (content : Option (List ℕ)) → known file.name ≡ content → IfSome content (λ bytes. most_bytes < length bytes)
@@ -107,12 +107,12 @@ module _ (known : List ℕ → Option (List ℕ)) where
         record {
           bytes = bytes;
           possible = subst (λ o. IfSome o (λ content. bytes ≡ content)) (sym unknown) tt;
-          is_refused = refused_long file.role bytes (omega (arith, same, long));
+          is_refused = refused_long file bytes (omega (arith, same, long));
         }
   refused_too_long file (Some bytes) is long = record {
     bytes = bytes;
     possible = subst (λ o. IfSome o (λ content. bytes ≡ content)) (sym is) refl;
-    is_refused = refused_long file.role bytes long;
+    is_refused = refused_long file bytes long;
   }
 
   module _ (before after : List ℕ → ℕ) where
@@ -130,9 +130,9 @@ module _ (known : List ℕ → Option (List ℕ)) where
         → seen ≡ bytes
         → IfSome (known file.name) (λ content. bytes ≡ content)
         → length bytes ≤ most_bytes
-        → IsTableRead (Err found) (judged_as file.role seen) old new
+        → IsTableRead (Err found) (judged_as file.kind seen) old new
         → IsRefused known before after file (from_table file.role found)
-    refused_of file bytes seen (table.Fault fault) old new same possible short bad = refused_fault file bytes fault possible short (ap (judged_as file.role) (sym same) ∙ bad)
+    refused_of file bytes seen (table.Fault fault) old new same possible short bad = refused_fault file bytes fault possible short (ap (judged_as file.kind) (sym same) ∙ bad)
     refused_of file bytes seen table.Memory old new same possible short bad = tt
 
     -- a refusal of the one file holds
@@ -167,7 +167,7 @@ module _ (known : List ℕ → Option (List ℕ)) where
   }
 
 -- the files with a role are one, where a command names it
-pub files_with_one : (command : Command) (role : Role) (name : List ℕ) → file_name_of command role ≡ Some name → files_with command role ≡ record { role = role; name = name } ∷ []
+pub files_with_one : (command : Command) (role : Role) (name : List ℕ) → file_name_of command role ≡ Some name → files_with command role ≡ record { role = role; kind = kind_of command.function role; name = name } ∷ []
 files_with_one command role name is = rw is refl
 
 -- and none, where it names none

@@ -12,7 +12,7 @@ after (Err fault) tables = tables
 
 -- tables with the rows of a content in their place
 abbrev pub with_content : Tables → Content → Tables
-with_content tables content = after (judged_as content.file.role content.bytes) tables
+with_content tables content = after (judged_as content.file.kind content.bytes) tables
 
 -- the tables that contents are; one that no content is has no row
 abbrev pub tables_of : List Content → Tables

@@ -19,7 +19,7 @@ pub record StandsBehind (files front : List File) (file : File) : Type 0 where
 pub record IsContentRefused (known : List ℕ → Option (List ℕ)) (file : File) (refused : Refused) : Type 0 where
   pub bytes : List ℕ
   pub possible : IsPossible known (record { file = file; bytes = bytes })
-  pub is_refused : refusal_of file.role bytes ≡ Some refused
+  pub is_refused : refusal_of file bytes ≡ Some refused
 
 -- what a refusal says of the file that it is for, where these were the counts of faults of names before and after:
 -- its count rose where a read failed, or else it has a content that is refused so; where memory ran out nothing is said
@@ -45,7 +45,7 @@ pub record IsFirstRefusal (known : List ℕ → Option (List ℕ)) (files : List
   pub file : File
   pub place : StandsBehind files front file
   pub accepted : All (IsKnownAccepted known) front
-  pub refuses : IsSomeAnd (known file.name) (λ bytes. refusal_of file.role bytes ≡ Some refused)
+  pub refuses : IsSomeAnd (known file.name) (λ bytes. refusal_of file bytes ≡ Some refused)
 
 -- the refusal of a file with this role that wasn't read
 abbrev pub from_read : Role → ReadRefused → Refused

@@ -1,6 +1,9 @@
--- What a file is to a command: which files it names, in which order, and what messages call them.
+-- What a file is to a command: which files it names, in which order, what they are read as, and what messages call them.
 use Rattle.std.specs.Prelude.{ℕ, List, [], ◌∷◌, Option, Some, codes}
 use Rattle.pgr_words.specs.declared.command.Command.{Command}
+use Rattle.pgr_words.specs.declared.function.Function.{Function}
+use Rattle.pgr_answer.specs.declared.role.Kind.{Kind}
+use Rattle.pgr_answer.specs.declared.role.Kind.TheVariants as kind
 use Rattle.pgr_answer.specs.declared.role.Role.{Role}
 use Rattle.pgr_answer.specs.declared.role.Role.TheVariants.{Edges, Combinations}
 
@@ -17,3 +20,8 @@ name_of Combinations = codes "combinations"
 abbrev pub file_name_of : Command → Role → Option (List ℕ)
 file_name_of command Edges = Some command.edges
 file_name_of command Combinations = command.combinations
+
+-- what the file of this role is read as by a function
+abbrev pub kind_of : Function → Role → Kind
+kind_of function Edges = kind.Edges
+kind_of function Combinations = kind.Combinations

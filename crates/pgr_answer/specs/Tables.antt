@@ -3,8 +3,8 @@ use Rattle.std.specs.Prelude.{ℕ, List, [], fold, Result, Ok, Err}
 use Rattle.pgr_table.specs.Edges.{judged_edges}
 use Rattle.pgr_table.specs.Pairs.{judged_pairs}
 use Rattle.pgr_table.specs.declared.fault.TableFault.{TableFault}
-use Rattle.pgr_answer.specs.declared.role.Role.{Role}
-use Rattle.pgr_answer.specs.declared.role.Role.TheVariants.{Edges, Combinations}
+use Rattle.pgr_answer.specs.declared.role.Kind.{Kind}
+use Rattle.pgr_answer.specs.declared.role.Kind.TheVariants.{Edges, Combinations}
 use Rattle.pgr_answer.specs.declared.tables.Tables.{Tables}
 
 -- no table has a row
@@ -16,7 +16,7 @@ abbrev pub put : {Rows : Type 0} → (Rows → Tables → Tables) → Result Row
 put place (Ok rows) = Ok (place rows)
 put place (Err fault) = Err fault
 
--- the verdict on the bytes of a table of this role: where its rows belong among the tables, or its first fault
-abbrev pub judged_as : Role → List ℕ → Result (Tables → Tables) TableFault
+-- the verdict on the bytes of a table of this kind: where its rows belong among the tables, or its first fault
+abbrev pub judged_as : Kind → List ℕ → Result (Tables → Tables) TableFault
 judged_as Edges bytes = put (λ rows tables. record tables { edges = rows }) (judged_edges bytes)
 judged_as Combinations bytes = put (λ rows tables. record tables { combinations = rows }) (judged_pairs bytes)

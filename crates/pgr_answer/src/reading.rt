@@ -6,7 +6,7 @@ ghost use Rattle.pgr_answer.specs.Refusals.{HoldsAmong, from_read, from_table};
 ghost use Rattle.pgr_answer.specs.Tables.{no_tables};
 
 use crate::refused::Refused;
-use crate::role::{Role, roles};
+use crate::role::{Kind, Role, roles};
 use crate::tables::Tables;
 use pgr_outside::{ReadRefused, Store, read_file};
 use pgr_table::TableRefused;
@@ -56,7 +56,8 @@ fn read_role<S: Store>(
         Ok(bytes) => bytes,
         Err(refused) => return Err(refused_read(role, refused)),
     };
-    match tables.read(alloc, role, bytes.as_slice()) {
+    let kind = Kind::of(command.function, role);
+    match tables.read(alloc, kind, bytes.as_slice()) {
         Ok(()) => Ok(()),
         Err(refused) => Err(refused_table(role, refused)),
     }

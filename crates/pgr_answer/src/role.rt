@@ -1,7 +1,7 @@
 ghost use Rattle.std.specs.Prelude.{◌≡◌, option_map};
-ghost use Rattle.pgr_answer.specs.Roles.{roles as the_roles, name_of, file_name_of};
+ghost use Rattle.pgr_answer.specs.Roles.{roles as the_roles, name_of, file_name_of, kind_of};
 
-use pgr_words::Command;
+use pgr_words::{Command, Function};
 use std::fmt;
 
 /// What a file is to a command.
@@ -50,5 +50,26 @@ impl Role {
 impl fmt::Display for Role {
     fn fmt<W: fmt::Write>(&self, f: &mut fmt::Formatter<W>) -> fmt::Result {
         f.write_str(self.name())
+    }
+}
+
+/// What the file of a role is read as.
+#[derive(Clone, Copy, Debug)]
+pub(crate) enum Kind {
+    /// A table of edges.
+    Edges,
+    /// A table of asked pairs.
+    Combinations,
+}
+
+impl Kind {
+    /// What the file of this role is read as by a function.
+    pub(crate) fn of(_function: Function, role: Role) -> Kind
+        ensures { result ≡ kind_of _function role }
+    {
+        match role {
+            Role::Edges => Kind::Edges,
+            Role::Combinations => Kind::Combinations,
+        }
     }
 }

@@ -2,11 +2,11 @@ ghost use Rattle.std.specs.Prelude.{◌≡◌};
 ghost use Rattle.pgr_answer.specs.Tables.{no_tables, judged_as};
 ghost use Rattle.pgr_answer.specs.Reading.{IsTableRead};
 
-use crate::role::Role;
+use crate::role::Kind;
 use pgr_table::{EdgeTable, PairTable, TableRefused, read_combinations, read_edges};
 use std::alloc::Global;
 
-/// The tables that a command asks about, one for each role; a table without a file has no row.
+/// The tables that a command asks about, one of each kind; a table without a file has no row.
 #[derive(Drop)]
 pub(crate) struct Tables {
     /// The edges.
@@ -26,20 +26,20 @@ impl Tables {
         }
     }
 
-    /// Reads bytes as the table of a role, which takes the place of the one before.
+    /// Reads bytes as a table of this kind, which takes the place of the one before.
     ///
     /// Where it is refused the tables stay as they are.
     pub(crate) fn read(
         &mut self,
         alloc: Global,
-        role: Role,
+        kind: Kind,
         bytes: &[u8],
     ) -> Result<(), TableRefused>
-        ensures { IsTableRead result (judged_as role bytes.now) self.old self.new }
+        ensures { IsTableRead result (judged_as kind bytes.now) self.old self.new }
     {
-        match role {
-            Role::Edges => self.edges = read_edges(alloc, bytes, false)?,
-            Role::Combinations => self.combinations = read_combinations(alloc, bytes)?,
+        match kind {
+            Kind::Edges => self.edges = read_edges(alloc, bytes, false)?,
+            Kind::Combinations => self.combinations = read_combinations(alloc, bytes)?,
         }
         Ok(())
     }

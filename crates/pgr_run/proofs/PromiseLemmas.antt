@@ -106,13 +106,13 @@ among P (first ∷ all) (f ∷ front) file back order each =
     let rest : all ≡ front ++ file ∷ back = cc in among P all front file back rest (All-tail P first all each)
 
 -- a content that is known to be accepted isn't refused
-not_refused : (told : Option (List ℕ)) (role : Role) (bytes : List ℕ) (found : Refused) → IfSome told (λ known. bytes ≡ known)
-    → refusal_of role bytes ≡ Some found → IsSomeAnd told (λ known. refusal_of role known ≡ None) → ⊥
-not_refused None role bytes found possible is accepted = accepted
-not_refused (Some known) role bytes found possible is accepted = let same : refusal_of role bytes ≡ refusal_of role known = ap (refusal_of role) possible in cc
+not_refused : (told : Option (List ℕ)) (file : File) (bytes : List ℕ) (found : Refused) → IfSome told (λ known. bytes ≡ known)
+    → refusal_of file bytes ≡ Some found → IsSomeAnd told (λ known. refusal_of file known ≡ None) → ⊥
+not_refused None file bytes found possible is accepted = accepted
+not_refused (Some known) file bytes found possible is accepted = let same : refusal_of file bytes ≡ refusal_of file known = ap (refusal_of file) possible in cc
 
 known_refused : (content : List ℕ → Option (List ℕ)) (file : File) (found : Refused) → IsContentRefused content file found → IsKnownAccepted content file → ⊥
-known_refused content file found refused known = not_refused (content file.name) file.role refused.bytes found refused.possible refused.is_refused known
+known_refused content file found refused known = not_refused (content file.name) file refused.bytes found refused.possible refused.is_refused known
 
 module _ (content : List ℕ → Option (List ℕ)) (before after : List ℕ → ℕ) (files : List File) (known : All (IsKnownAccepted content) files)
     (kept : All (λ file. ¬ HasRisen (before file.name) (after file.name)) files) where

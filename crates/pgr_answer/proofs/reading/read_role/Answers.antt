@@ -6,7 +6,7 @@ use Rattle.pgr_answer.specs.declared.refused.Refused.{Refused}
 use Rattle.pgr_answer.specs.Files.{File, files_with}
 use Rattle.pgr_answer.specs.Reading.{AreRead}
 use Rattle.pgr_answer.specs.Refusals.{HoldsAmong}
-use Rattle.pgr_answer.specs.Roles.{file_name_of}
+use Rattle.pgr_answer.specs.Roles.{file_name_of, kind_of}
 use Rattle.pgr_answer.proofs.ReadFiles.{files_with_one, holds_one, refused_read, read_of, refused_of}
 use Rattle.pgr_answer.proofs.reading.read_role.Goals as goal
 
@@ -15,7 +15,7 @@ returns-in-Err-clause-refused g c =
     let known = g.S.Store.content c.args.store.now in
     let before = g.S.Store.faults c.args.store.now in
     let after = g.S.Store.faults c.read_file.new.store in
-    let file : File = record { role = c.args.role; name = c.in-Some.name.now } in
+    let file : File = record { role = c.args.role; kind = kind_of c.args.command.now.function c.args.role; name = c.in-Some.name.now } in
     let is : file_name_of c.args.command.now c.args.role ≡ Some c.in-Some.name.now = sym c.file_name.ensures ∙ ap (option_map (λ name. name.now)) c.in-Some.is in
     let refused = refused_read known before after file c.in-Err.refused (λ e. c.in-Err.ensures.too_long (ap Err e)) (λ e. c.in-Err.ensures.failed (ap Err e)) in
     rw (files_with_one c.args.command.now c.args.role c.in-Some.name.now is, c.refused_read.ensures) (holds_one known before after file _ refused)
@@ -23,7 +23,7 @@ returns-in-Err-clause-refused g c =
 pub returns-in-Ok-read-clause-tables : goal.returns-in-Ok-read-clause-tables
 returns-in-Ok-read-clause-tables g c =
     let known = g.S.Store.content c.args.store.now in
-    let file : File = record { role = c.args.role; name = c.in-Some.name.now } in
+    let file : File = record { role = c.args.role; kind = kind_of c.args.command.now.function c.args.role; name = c.in-Some.name.now } in
     let is : file_name_of c.args.command.now c.args.role ≡ Some c.in-Some.name.now = sym c.file_name.ensures ∙ ap (option_map (λ name. name.now)) c.in-Some.is in
     rw (files_with_one c.args.command.now c.args.role c.in-Some.name.now is)
     (read_of known file c.in-Ok.bytes.items c.as_slice.result.now c.args.tables.now c.read.new.self c.as_slice.ensures.value c.in-Ok.ensures.whole
@@ -34,7 +34,7 @@ returns-clause-refused g c =
     let known = g.S.Store.content c.args.store.now in
     let before = g.S.Store.faults c.args.store.now in
     let after = g.S.Store.faults c.read_file.new.store in
-    let file : File = record { role = c.args.role; name = c.in-Some.name.now } in
+    let file : File = record { role = c.args.role; kind = kind_of c.args.command.now.function c.args.role; name = c.in-Some.name.now } in
     let is : file_name_of c.args.command.now c.args.role ≡ Some c.in-Some.name.now = sym c.file_name.ensures ∙ ap (option_map (λ name. name.now)) c.in-Some.is in
     let refused = refused_of known before after file c.in-Ok.bytes.items c.as_slice.result.now c.in-Err-read.refused c.args.tables.now c.read.new.self c.as_slice.ensures.value
     c.in-Ok.ensures.whole (omega (arith, c.in-Ok.ensures.within, c.in-Ok.bytes.ok.0)) c.in-Err-read.ensures in
