@@ -17,13 +17,13 @@ use Rattle.pgr_walks.specs.Label.{AtMost, IsLeastLabel, IsLabel, beyond}
 use Rattle.pgr_walks.specs.Graph.{IsLinkOf, IsLawful, Fits, greatest}
 use Rattle.pgr_search.specs.declared.guiding.Key.{Key}
 use Rattle.pgr_search.specs.declared.tournament.Waiting.{Waiting}
-use Rattle.pgr_search.specs.Estimates.{IsConsistent}
+use Rattle.pgr_search.specs.Estimates.{IsConsistent, keyed, NoneBeyond}
 use Rattle.pgr_search.specs.FinalLabels.{label_at, HoldsFinalLabels, HoldsLabelsFrom}
 use Rattle.pgr_search.specs.Guiding.{key_cmp, label_of_key, key_beyond, guided, all_guided, Guidance, guidance_after, CanGuide, IsGuided, StartsGuided}
 use Rattle.pgr_search.specs.Start.{empty_label}
 use Rattle.pgr_search.specs.Tournament.{is_before, key_at, lowered, IsLeast}
 use Rattle.pgr_search.proofs.LabelOrder.{AtMost-refl, AtMost-trans, less, not_less}
-use Rattle.pgr_search.proofs.LabelSetting.{keyed, IsOffered, IsSearch, IsNext, IsRelaxed, search_begins, one_more_settled, all_settled, next_is_least}
+use Rattle.pgr_search.proofs.LabelSetting.{IsOffered, IsSearch, IsNext, IsRelaxed, search_begins, one_more_settled, settled_before, all_settled, next_is_least}
 use Rattle.pgr_search.proofs.Listing.{no_label}
 
 -- the label that a key stands for
@@ -65,7 +65,7 @@ HasLabel-from_test : (o : Option Label) → is_some o ≡ true → (label : Labe
 HasLabel-from_test None e = absurd (false≢true e)
 HasLabel-from_test (Some label) e = (label, refl)
 
-None-from_test : (o : Option Label) → is_some o ≡ false → o ≡ None
+pub None-from_test : (o : Option Label) → is_some o ≡ false → o ≡ None
 None-from_test None e = refl
 None-from_test (Some label) e = absurd (false≢true (sym e))
 
@@ -218,6 +218,13 @@ starts_guiding size ins targets values settled keys settled_len keys_len none s 
         let o = s.others v key.0 key.1 in
         (o.0, sym key.2 ∙ ap (label_of_key values v) o.1 ∙ empty v)
 
+-- where the start isn't settled none is beyond it
+none_beyond_unsettled : (values : ℕ → ℕ) (settled : List (Option Label)) (start : ℕ) → label_at settled start ≡ None → NoneBeyond values settled start
+none_beyond_unsettled values settled start unsettled v label own e f = absurd (none-some own (sym unsettled ∙ f))
+
+pub starts_within : (values : ℕ → ℕ) (settled : List (Option Label)) (start : ℕ) → All IsNone settled → NoneBeyond values settled start
+starts_within values settled start none = none_beyond_unsettled values settled start (no_label settled none start)
+
 -- where no vertex has a key none waits
 none_waits : (values : ℕ → ℕ) (keys : List (Option Key)) → All IsNone keys → (v : ℕ) (label : Label) → waiting_of values keys v ≡ Some label → ⊥
 none_waits values keys none v label e = at (cases_lt v (length keys))
@@ -333,17 +340,36 @@ module _ (size : ℕ) (outs ins : ℕ → List (LinkOf ℕ)) (lawful : IsLawful 
               let to = (ends link h.0).0 in
               inr (link, (((omega (arith, to, nearest_below), subst (λ x. Contains (ins x) link) (sym to) h.0), to), h.1, h.2, h.3))
 
+      settled_here : label_at settled_after nearest.vertex ≡ Some here
+      settled_here = ap (λ xs. label_at xs nearest.vertex) settled_is ∙ get_or-set_same settled nearest.vertex (Some here) None (omega (arith, nearest_below, r.settled_len))
+
+      settled_other : (v : ℕ) → (v ≡ nearest.vertex → ⊥) → label_at settled_after v ≡ label_at settled v
+      settled_other v differs = ap (λ xs. label_at xs v) settled_is ∙ get_or-set_other settled nearest.vertex v (Some here) None differs
+
       pub round_guiding : IsGuiding size ins targets values settled_after keys_after
       round_guiding = record {
         settled_len = ap length settled_is ∙ length-set settled nearest.vertex (Some here) ∙ r.settled_len;
         keys_len = step_of.size ∙ without_len;
         search = one_more_settled (IsLinkOf size ins) targets values consistent (label_at settled) (waiting_of values keys) r.search nearest.vertex here next
             (label_at settled_after) (waiting_of values (set keys nearest.vertex None)) (waiting_of values keys_after)
-            (ap (λ xs. label_at xs nearest.vertex) settled_is ∙ get_or-set_same settled nearest.vertex (Some here) None (omega (arith, nearest_below, r.settled_len)))
-            (λ v differs. ap (λ xs. label_at xs v) settled_is ∙ get_or-set_other settled nearest.vertex v (Some here) None differs)
-            (ap (labelled values nearest.vertex) key_here) (λ v differs. ap (labelled values v) (key_other v differs)) relaxes;
+            settled_here settled_other (ap (labelled values nearest.vertex) key_here) (λ v differs. ap (labelled values v) (key_other v differs)) relaxes;
         estimated = step_of.estimated;
       }
+
+      -- a start that wasn't settled is now, as the last one, or still isn't
+      pub round_within : (start : ℕ) → label_at settled start ≡ None → NoneBeyond values settled_after start
+      round_within start unsettled = at (cases_eq start nearest.vertex)
+        where
+          last : (v : ℕ) (label : Label) → label_at settled_after v ≡ Some label → AtMost (keyed values v label) (keyed values nearest.vertex here)
+          last = settled_before (IsLinkOf size ins) targets values consistent (label_at settled) (waiting_of values keys) r.search nearest.vertex here next
+              (label_at settled_after) (waiting_of values (set keys nearest.vertex None)) (waiting_of values keys_after)
+              settled_here settled_other (ap (labelled values nearest.vertex) key_here) (λ v differs. ap (labelled values v) (key_other v differs)) relaxes
+
+          at : (start ≡ nearest.vertex) ⊎ (start ≡ nearest.vertex → ⊥) → NoneBeyond values settled_after start
+          at (inl same) = λ v label own e f.
+              (let is : here ≡ own = same_Some here own (sym settled_here ∙ ap (label_at settled_after) (sym same) ∙ f) in
+              subst (λ u. AtMost (keyed values v label) (keyed values u own)) (sym same) (subst (λ l. AtMost (keyed values v label) (keyed values nearest.vertex l)) is (last v label e)))
+          at (inr differs) = none_beyond_unsettled values settled_after start (settled_other start differs ∙ unsettled)
 
       -- one vertex less is left
       pub fewer_left : count_by is_none settled_after < count_by is_none settled
@@ -351,6 +377,11 @@ module _ (size : ℕ) (outs ins : ℕ → List (LinkOf ℕ)) (lawful : IsLawful 
           let fewer = sum_by-set (λ (o : Option Label). cond (is_none o) 1 0) settled nearest.vertex (Some here) None (omega (arith, nearest_below, r.settled_len)) in
           let one : ◌≡◌ {A = ℕ} (cond (is_none (label_at settled nearest.vertex)) 1 0) 1 = ap (λ (o : Option Label). cond (is_none o) 1 0) nearest_waits in
           omega (arith, fewer, one, ap (count_by is_none) settled_is)
+
+-- what a search with an estimate keeps up to its start
+pub record IsGuidingTo (size : ℕ) (ins : ℕ → List (LinkOf ℕ)) (targets : List ℕ) (start : ℕ) (values : ℕ → ℕ) (settled : List (Option Label)) (keys : List (Option Key)) : Type 0 where
+  pub guiding : IsGuiding size ins targets values settled keys
+  pub within : NoneBeyond values settled start
 
 -- how the keys of targets are set, one target after another
 pub record StartsGuidedUpTo (values : ℕ → ℕ) (targets : List ℕ) (keys : List (Option Key)) (n : ℕ) : Type 0 where

@@ -6,12 +6,9 @@ use Rattle.pgr_walks.specs.declared.link.LinkOf.{LinkOf}
 use Rattle.pgr_walks.specs.declared.label.Label.{Label}
 use Rattle.pgr_walks.specs.Walk.{IsWalk}
 use Rattle.pgr_walks.specs.Label.{AtMost, LeadsTo, IsLeastLabel, IsLabel, label_of, beyond}
+use Rattle.pgr_search.specs.Estimates.{keyed}
 use Rattle.pgr_search.specs.Start.{empty_label}
 use Rattle.pgr_search.proofs.LabelOrder.{AtMost-refl, AtMost-trans, AtMost-beyond, label_of-cons}
-
--- a label with the estimate of its vertex
-abbrev pub keyed : (ℕ → ℕ) → ℕ → Label → Label
-keyed p v label = record { cost = label.cost + p v; hops = label.hops }
 
 -- the order at one vertex is that of the labels
 pub keyed_from : (p : ℕ → ℕ) (v : ℕ) (a b : Label) → AtMost a b → AtMost (keyed p v a) (keyed p v b)
@@ -216,7 +213,7 @@ module _ (Has : LinkOf ℕ → Type 0) (targets : List ℕ) (p : ℕ → ℕ) (c
       at (inr other) = (other, sym (without_other v other) ∙ e)
 
   -- the key of a settled vertex is at most that of the vertex
-  settled_before : (v : ℕ) (a : Label) → settled_after v ≡ Some a → AtMost (keyed p v a) (keyed p x label)
+  pub settled_before : (v : ℕ) (a : Label) → settled_after v ≡ Some a → AtMost (keyed p v a) (keyed p x label)
   settled_before v a e = at (was_settled v a e)
     where
       at : ((v ≡ x) × (a ≡ label)) ⊎ (settled v ≡ Some a) → AtMost (keyed p v a) (keyed p x label)

@@ -20,7 +20,8 @@ use Rattle.pgr_search.specs.Start.{StartsAt}
 use Rattle.pgr_search.specs.Tournament.{IsLeast}
 use Rattle.pgr_search.specs.Turn.{HasReached, IsBefore, IsOver}
 use Rattle.pgr_search.proofs.LabelOrder.{AtMost-refl, AtMost-trans, not_less}
-use Rattle.pgr_search.proofs.LabelSetting.{keyed, IsSearch, IsNext, IsRelaxed, SomeWaits, search_begins, one_more_settled, all_settled, walk_waits, next_is_least}
+use Rattle.pgr_search.specs.Estimates.{keyed}
+use Rattle.pgr_search.proofs.LabelSetting.{IsSearch, IsNext, IsRelaxed, SomeWaits, search_begins, one_more_settled, all_settled, walk_waits, next_is_least}
 use Rattle.pgr_search.proofs.Listing.{no_label}
 use Rattle.pgr_search.proofs.Relaxed.{all_relaxed_step}
 use Rattle.pgr_search.proofs.Shown.{length-all_relaxed}

@@ -2,7 +2,7 @@ ghost use Rattle.std.specs.Prelude.{◌≡◌, ◌<◌, ◌≤◌, ◌-◌, ◌^
 ghost use Rattle.pgr_walks.specs.Graph.{Fits};
 ghost use Rattle.pgr_walks.specs.LinksOf.{LinksOf};
 ghost use Rattle.pgr_search.specs.FinalLabels.{HoldsLabelsFrom};
-ghost use Rattle.pgr_search.specs.Estimates.{IsConsistent};
+ghost use Rattle.pgr_search.specs.Estimates.{IsConsistent, NoneBeyond};
 ghost use Rattle.pgr_search.specs.Guiding.{CanGuide, StartsGuided, all_guided, label_of_key};
 
 use crate::estimate::Estimate;
@@ -61,7 +61,8 @@ impl GuidedRoom {
 /// vertex that is below 2^127 and consistent: along no link it rises by more than the link costs. The label of
 /// the start is its least, or none exactly where no walk leads from it to a target; each other label is the least of its
 /// vertex, and with a vertex each one that a least walk from it comes to has its own. So `least_tight_link` finds the
-/// least walk from the start. It takes no memory.
+/// least walk from the start. Where the start has a label, no vertex has one whose cost and estimate together, and
+/// then its hops, come after those of the start. It takes no memory.
 /// Source: Hart, Nilsson, Raphael 1968.
 pub fn labels_guided<G: Graph, E: Estimate>(
     g: &G,
@@ -78,16 +79,11 @@ pub fn labels_guided<G: Graph, E: Estimate>(
     requires consistent { IsConsistent (LinksOf G.Graph g.now) (E.values estimate.now) }
     requires room { length room.old ≡ G.count g.now }
     ensures labels { HoldsLabelsFrom (G.count g.now) (LinksOf G.Graph g.now) targets.now room.new start }
+    ensures guided { NoneBeyond (E.values estimate.now) room.new start }
     ensures size { length room.new ≡ length room.old }
 {
-    guide(
-        g,
-        targets,
-        start,
-        estimate,
-        &mut room.room.settled,
-        &mut room.keys,
-    );
+    let settled = &mut room.room.settled;
+    guide(g, targets, start, estimate, settled, &mut room.keys);
     room.keys.clear();
 }
 
@@ -111,6 +107,7 @@ fn guide<G: Graph, E: Estimate>(
     requires none { All IsNone keys.old }
     requires few { G.count g.now < 2 ^ 32 }
     ensures labels { HoldsLabelsFrom (G.count g.now) (LinksOf G.Graph g.now) targets.now settled.new start }
+    ensures guided { NoneBeyond (E.values estimate.now) settled.new start }
     ensures keys { length keys.new ≡ length keys.old }
 {
     least_labels_are_small(g);

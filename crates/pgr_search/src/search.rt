@@ -39,8 +39,9 @@ pub fn labels_to<G: Graph>(g: &G, targets: &[u32], room: &mut Room)
 /// With wanted vertices each of them has its least label, or none where no walk leads from it to a target,
 /// and no label is beyond those of all of them; they may repeat, and where there are none no vertex has a label.
 /// With a limit the vertices that have a label are exactly those whose least cost is at most the limit.
-/// No link into a vertex without a label is looked at. It takes no memory.
-/// Source: Dijkstra 1959. Work, not proved: for each link into a vertex with a label the matches of a tournament.
+/// It takes no memory.
+/// Source: Dijkstra 1959. Work, not proved: for each link into a vertex with a label the matches of a tournament,
+/// and no other link is shown.
 pub fn labels_until<G: Graph>(g: &G, targets: &[u32], bound: Bound<'_>, room: &mut Room)
     requires fits { Fits (LinksOf G.Graph g.now) }
     requires targets { All (λ t. t < G.count g.now) targets.now }
