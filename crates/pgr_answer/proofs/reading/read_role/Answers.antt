@@ -27,7 +27,7 @@ returns-in-Ok-read-clause-tables g c =
     let is : file_name_of c.args.command.now c.args.role ≡ Some c.in-Some.name.now = sym c.file_name.ensures ∙ ap (option_map (λ name. name.now)) c.in-Some.is in
     rw (files_with_one c.args.command.now c.args.role c.in-Some.name.now is)
     (read_of known file c.in-Ok.bytes.items c.as_slice.result.now c.args.tables.now c.read.new.self c.as_slice.ensures.value c.in-Ok.ensures.whole
-    (omega (arith, c.in-Ok.ensures.within, c.in-Ok.bytes.ok.0)) c.in-Ok-read.ensures)
+    (omega (arith, c.in-Ok.ensures.within, c.in-Ok.bytes.ok.0)) (rw c.of-kind.ensures at c.in-Ok-read.ensures))
 
 pub returns-clause-refused : goal.returns-clause-refused
 returns-clause-refused g c =
@@ -37,5 +37,5 @@ returns-clause-refused g c =
     let file : File = record { role = c.args.role; kind = kind_of c.args.command.now.function c.args.role; name = c.in-Some.name.now } in
     let is : file_name_of c.args.command.now c.args.role ≡ Some c.in-Some.name.now = sym c.file_name.ensures ∙ ap (option_map (λ name. name.now)) c.in-Some.is in
     let refused = refused_of known before after file c.in-Ok.bytes.items c.as_slice.result.now c.in-Err-read.refused c.args.tables.now c.read.new.self c.as_slice.ensures.value
-    c.in-Ok.ensures.whole (omega (arith, c.in-Ok.ensures.within, c.in-Ok.bytes.ok.0)) c.in-Err-read.ensures in
+    c.in-Ok.ensures.whole (omega (arith, c.in-Ok.ensures.within, c.in-Ok.bytes.ok.0)) (rw c.of-kind.ensures at c.in-Err-read.ensures) in
     rw (files_with_one c.args.command.now c.args.role c.in-Some.name.now is, c.refused_table.ensures) (holds_one known before after file _ refused)
