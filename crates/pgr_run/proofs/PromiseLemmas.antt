@@ -6,6 +6,8 @@ use Rattle.pgr_outside.specs.Faults.{HasRisen}
 use Rattle.pgr_words.specs.declared.command.Command.{Command}
 use Rattle.pgr_words.specs.declared.fault.WordFault.{WordFault}
 use Rattle.pgr_words.specs.Commands.{command_of}
+use Rattle.pgr_table.specs.declared.fault.TableFault.{TableFault}
+use Rattle.pgr_table.specs.declared.fault.TableFault.TheVariants as fault
 use Rattle.pgr_answer.specs.declared.answered.Answered.{Answered}
 use Rattle.pgr_answer.specs.declared.role.Role.{Role}
 use Rattle.pgr_answer.specs.declared.refused.Refused.{Refused}
@@ -15,8 +17,8 @@ use Rattle.pgr_answer.specs.Refusals.{HoldsAmong, IsContentRefused, IsFirstRefus
 use Rattle.pgr_run.specs.declared.cause.Cause.{Cause}
 use Rattle.pgr_run.specs.declared.cause.Cause.TheVariants as cause
 use Rattle.pgr_run.specs.declared.status.Status.{Status}
-use Rattle.pgr_run.specs.declared.status.Status.TheVariants.{Done, Outside, Memory}
-use Rattle.pgr_run.specs.Causes.{status_of, status_of_refusal}
+use Rattle.pgr_run.specs.declared.status.Status.TheVariants.{Done, Outside, Words, Memory}
+use Rattle.pgr_run.specs.Causes.{status_of, status_of_fault, status_of_refusal}
 use Rattle.pgr_run.specs.Promise.{Asks, Seen, OutStays, Holds, AReadFailed, EndsIn, WhereFirst}
 
 -- what a body without a value ends with
@@ -43,6 +45,23 @@ err_made (Err e) found P is holds = subst P (sym is) holds
 pub err_is : (result : Ended) (found : Cause) → IsErrAnd result (λ e. e ≡ found) → IsErrOf result found
 err_is (Ok x) found is = absurd is
 err_is (Err e) found is = ap Err is
+
+-- no refusal has the status of words
+fault_not_words : (fault : TableFault) → status_of_fault fault ≡ Words → ⊥
+fault_not_words fault.NoHeader e = cc
+fault_not_words (fault.UnevenRecord number) e = cc
+fault_not_words (fault.MissingColumn column) e = cc
+fault_not_words (fault.RepeatedColumn column) e = cc
+fault_not_words (fault.BadField number column) e = cc
+fault_not_words (fault.DuplicateId number) e = cc
+fault_not_words (fault.TooManyRows number) e = cc
+fault_not_words (fault.CostSum number) e = cc
+
+pub not_words : (found : Refused) → status_of_refusal found ≡ Words → ⊥
+not_words (refused.ReadFailed role) e = cc
+not_words (refused.TooLong role) e = cc
+not_words (refused.Table role fault) e = fault_not_words fault e
+not_words refused.Memory e = cc
 
 -- a refusal that holds of the files of the command holds of the run
 module _ (words : List (List ℕ)) (seen : Seen) (command : Command) (is : command_of words ≡ Ok command) (stays : OutStays seen) where

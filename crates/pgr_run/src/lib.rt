@@ -5,12 +5,12 @@
 //! Proved: status 0 means that exactly the text of an allowed table was written, and no message (`done`, `silent`). Every
 //! other status has a cause that holds, and its message was written, or a prefix of it where the count of faults of its sink
 //! rose (`cause`); the cause of out of memory says nothing of the words and the files. Where the words are refused, that is
-//! the status, unless it is out of memory (`words_where`). Where files whose content is known are refused, that is the status,
+//! the status, unless it is out of memory (`words_where`), and the store is left as it was (`words_first`). Where files whose content is known are refused, that is the status,
 //! unless it is out of memory or a read failed (`refused_where`). Where the content of each file is known and accepted, and
 //! neither a read nor a write failed, all is done, unless it is out of memory (`completes`). The output is left alone but for a
 //! table, or the prefix of one before a failed write (`untouched`, `cause`).
-//! Not proved: time, that memory suffices, that the header line is written as one piece, that the words are judged before
-//! anything is read, and that no memory is asked for once the rows stand.
+//! Not proved: time, that memory suffices, that the header line is written as one piece, that each file is judged
+//! before the next is read, and that no memory is asked for once the rows stand.
 #![tactic(auto)]
 
 mod cause;

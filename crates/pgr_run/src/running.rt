@@ -52,8 +52,10 @@ pub fn run<S: Store, O: Sink, E: Sink>(
         × WritesMessage (message_of cause) (E.written err.old) (E.written err.new) (E.faults err.old) (E.faults err.new)
         × (cause ≢ Cause.WriteFailed → out.new ≡ out.old) }
 
-    // Where the words break a rule, or known contents are refused, that is the status, unless it is out of memory or a read failed.
+    // Where the words break a rule, or known contents are refused, that is the status, unless it is out of memory or a read failed;
+    // and where it is that of the words, no file was read: the store itself is as it was.
     ensures words_where { IsErr (command_of (texts words.now)) → (result ≡ Status.Words) ⊎ (result ≡ Status.Memory) }
+    ensures words_first { result ≡ Status.Words → store.new ≡ store.old }
     ensures refused_where { WhereFirst (texts words.now) (S.content store.old) (λ command found. (result ≡ status_of_refusal found) ⊎ (result ≡ Status.Memory)
         ⊎ ((result ≡ Status.Outside) × AReadFailed command (S.content store.old) (S.faults store.old) (S.faults store.new))) }
 
@@ -101,6 +103,7 @@ fn print_table<S: Store, O: Sink>(
       faults_after = O.faults out.new;
     })) }
     ensures words_where { IfErr (command_of (texts words.now)) (λ fault. IsErrOf result (Cause.Words fault) ⊎ IsErrOf result (Cause.Refused refused.Memory)) }
+    ensures words_first { IfErr result (λ cause. status_of cause ≡ Status.Words → store.new ≡ store.old) }
     ensures refused_where { WhereFirst (texts words.now) (S.content store.old) (λ _. EndsIn result Cause.Refused) }
     ensures untouched { IfErr result (λ cause. cause ≢ Cause.WriteFailed → out.new ≡ out.old) }
     ensures out_faults { O.faults out.old ≤ O.faults out.new }

@@ -1,6 +1,6 @@
 use Rattle.std.proofs.Common.{refl}
 use Rattle.pgr_run.specs.Promise.{texts}
-use Rattle.pgr_run.proofs.PromiseLemmas.{err_made, holds_refused, first_told, none_first}
+use Rattle.pgr_run.proofs.PromiseLemmas.{err_made, not_words, holds_refused, first_told, none_first}
 use Rattle.pgr_run.proofs.running.print_table.Goals as goal
 
 pub returns-in_err-answered-clause-cause : goal.returns-in_err-answered-clause-cause
@@ -16,6 +16,10 @@ returns-in_err-answered-clause-cause g c =
       faults_after = g.O.Sink.faults c.args.out.now;
     })
     c.in_ok-command.command c.in_ok-command.ensures.verdict refl c.in_err-answered.field-0.0 c.in_err-answered.ensures.refused)
+
+pub returns-in_err-answered-clause-words_first : goal.returns-in_err-answered-clause-words_first
+returns-in_err-answered-clause-words_first g c =
+    err_made _ _ _ c.from_residual-in_err-answered.ensures.1 (λ e. absurd (not_words c.in_err-answered.field-0.0 e))
 
 pub returns-in_err-answered-clause-refused_where : goal.returns-in_err-answered-clause-refused_where
 returns-in_err-answered-clause-refused_where g c =
