@@ -1,13 +1,14 @@
 -- The kinds of result tables, and their texts.
-use Rattle.std.specs.Prelude.{ℕ, List, [], ◌∷◌, codes, decimal}
+use Rattle.std.specs.Prelude.{ℕ, ℤ, List, [], ◌∷◌, codes, decimal}
 use Rattle.std.specs.Fmt.{signed_decimal}
 use Rattle.pgr_rows.specs.Layout.{Layout, table_text}
 use Rattle.pgr_rows.specs.declared.rows.PathRow.{PathRow}
 use Rattle.pgr_rows.specs.declared.rows.CostRow.{CostRow}
 use Rattle.pgr_rows.specs.declared.rows.PartRow.{PartRow}
+use Rattle.pgr_rows.specs.declared.rows.ClassRow.{ClassRow}
 use Rattle.pgr_rows.specs.declared.rows.ReachRow.{ReachRow}
 use Rattle.pgr_rows.specs.declared.rows.Rows.{Rows}
-use Rattle.pgr_rows.specs.declared.rows.Rows.TheVariants.{Paths, Parts, Costs, Reaches}
+use Rattle.pgr_rows.specs.declared.rows.Rows.TheVariants.{Paths, Parts, Classes, Nodes, Edges, Costs, Reaches}
 
 -- rows of paths
 abbrev pub paths : Layout PathRow
@@ -31,6 +32,29 @@ parts = record {
   header = codes "seq,component,node\n";
   fields = λ row. decimal row.seq ∷ signed_decimal row.component ∷ signed_decimal row.node ∷ [];
 }
+
+-- rows of blocks
+abbrev pub classes : Layout ClassRow
+classes = record {
+  header = codes "seq,component,edge\n";
+  fields = λ row. decimal row.seq ∷ signed_decimal row.component ∷ signed_decimal row.edge ∷ [];
+}
+
+-- ids alone, one a line, under a header line
+abbrev pub column : List ℕ → Layout ℤ
+column header = record { header = header; fields = λ id. signed_decimal id ∷ [] }
+
+-- ids without a header line
+abbrev pub ids : Layout ℤ
+ids = column []
+
+-- vertices alone
+abbrev pub nodes : Layout ℤ
+nodes = column (codes "node\n")
+
+-- edges alone
+abbrev pub edges : Layout ℤ
+edges = column (codes "edge\n")
 
 -- rows of costs
 abbrev pub costs : Layout CostRow
@@ -59,5 +83,8 @@ reaches = record {
 abbrev pub text_of : Rows → List ℕ
 text_of (Paths rows) = table_text paths rows
 text_of (Parts rows) = table_text parts rows
+text_of (Classes rows) = table_text classes rows
+text_of (Nodes ids) = table_text nodes ids
+text_of (Edges ids) = table_text edges ids
 text_of (Costs rows) = table_text costs rows
 text_of (Reaches rows) = table_text reaches rows

@@ -116,6 +116,54 @@ impl Record for PartRow {
     }
 }
 
+/// A row of a table of blocks: one edge and the name of its block.
+#[derive(Clone, Copy, Debug, PartialEq, Eq)]
+pub struct ClassRow {
+    /// The number of the row in the table, from 1.
+    pub seq: u64,
+    /// The least edge of the block.
+    pub component: i64,
+    /// The edge.
+    pub edge: i64,
+}
+
+impl Record for ClassRow {
+    ghost use Rattle.pgr_rows.specs.Text.{classes};
+
+    ghost layout = { classes };
+
+    fn header() -> &'static str {
+        "seq,component,edge\n"
+    }
+
+    fn gather<O: Sink>(&self, out: &mut O, piece: &mut Piece) -> Result<(), Failed> {
+        gather_line(
+            out,
+            piece,
+            &[
+                Part::Number(self.seq),
+                Part::Signed(self.component),
+                Part::Signed(self.edge),
+            ],
+        )
+    }
+}
+
+/// An id alone. Tables of several kinds have such rows, and each brings a header line of its own.
+impl Record for i64 {
+    ghost use Rattle.pgr_rows.specs.Text.{ids};
+
+    ghost layout = { ids };
+
+    fn header() -> &'static str {
+        ""
+    }
+
+    fn gather<O: Sink>(&self, out: &mut O, piece: &mut Piece) -> Result<(), Failed> {
+        gather_line(out, piece, &[Part::Signed(*self)])
+    }
+}
+
 /// A row of a table of reached vertices: a vertex within a distance of a start, with the link that leads to it.
 #[derive(Clone, Copy, Debug, PartialEq, Eq)]
 pub struct ReachRow {
@@ -171,6 +219,12 @@ pub enum Rows {
     Paths(Listed<PathRow>),
     /// Components, of the columns `seq,component,node`.
     Parts(Listed<PartRow>),
+    /// Blocks, of the columns `seq,component,edge`.
+    Classes(Listed<ClassRow>),
+    /// Vertices, of the column `node`.
+    Nodes(Listed<i64>),
+    /// Edges, of the column `edge`.
+    Edges(Listed<i64>),
     /// Costs, of the columns `start_vid,end_vid,agg_cost`.
     Costs(Listed<CostRow>),
     /// Reached vertices, of the columns `seq,depth,start_vid,pred,node,edge,cost,agg_cost`.

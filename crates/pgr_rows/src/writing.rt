@@ -1,4 +1,4 @@
-ghost use Rattle.std.specs.Prelude.{◌≡◌, ◌≤◌, OnOk, OnErr};
+ghost use Rattle.std.specs.Prelude.{◌≡◌, ◌≤◌, ◌++◌, OnOk, OnErr};
 ghost use Rattle.pgr_outside.specs.Faults.{HasRisen};
 ghost use Rattle.pgr_outside.specs.Sink.{with_added, AddsPrefix};
 ghost use Rattle.pgr_rows.specs.Layout.{lines_of, table_text};
@@ -23,6 +23,9 @@ pub fn write_table<O: Sink>(out: &mut O, rows: &Rows) -> Result<(), Failed>
     match rows {
         Rows::Paths(rows) => write_records(out, rows),
         Rows::Parts(rows) => write_records(out, rows),
+        Rows::Classes(rows) => write_records(out, rows),
+        Rows::Nodes(ids) => write_under(out, "node\n", ids),
+        Rows::Edges(ids) => write_under(out, "edge\n", ids),
         Rows::Costs(rows) => write_records(out, rows),
         Rows::Reaches(rows) => write_records(out, rows),
     }
@@ -35,7 +38,21 @@ fn write_records<O: Sink, R: Record>(out: &mut O, rows: &Listed<R>) -> Result<()
     ensures front { OnErr result (AddsPrefix (O.written out.old) (O.written out.new) (table_text R.layout rows.now)) }
     ensures faults { O.faults out.old ≤ O.faults out.new }
 {
-    write_all(out, R::header().as_bytes())?;
+    write_under(out, R::header(), rows)
+}
+
+/// Writes a header line, and then the lines of rows.
+fn write_under<O: Sink, R: Record>(
+    out: &mut O,
+    header: &str,
+    rows: &Listed<R>,
+) -> Result<(), Failed>
+    ensures text { OnOk result (O.written out.new ≡ with_added (O.written out.old) (header.now ++ lines_of R.layout rows.now)) }
+    ensures failed { OnErr result (HasRisen (O.faults out.old) (O.faults out.new)) }
+    ensures front { OnErr result (AddsPrefix (O.written out.old) (O.written out.new) (header.now ++ lines_of R.layout rows.now)) }
+    ensures faults { O.faults out.old ≤ O.faults out.new }
+{
+    write_all(out, header.as_bytes())?;
     write_lines(out, rows.as_slice())?;
     Ok(())
 }
@@ -58,7 +75,7 @@ fn write_lines<O: Sink, R: Record>(out: &mut O, rows: &[R]) -> Result<(), Failed
 #[cfg(test)]
 mod tests {
     use super::*;
-    use crate::rows::{CostRow, PartRow, PathRow, ReachRow};
+    use crate::rows::{ClassRow, CostRow, PartRow, PathRow, ReachRow};
     use pgr_outside::MemorySink;
     use std::test::Fail;
 
@@ -103,6 +120,33 @@ mod tests {
         let mut out = MemorySink::with_room(rt.alloc(), 64, 7, Vec::new(rt.alloc()))?;
         write_table(&mut out, &Rows::Parts(Listed::from_vec(rows)))?;
         assert_eq!(rt; out.bytes(), b"seq,component,node\n1,-2,4\n".as_slice());
+        Ok(())
+    }
+
+    #[test]
+    fn a_row_of_blocks_has_three_fields(rt: HostRuntime) -> Result<(), Fail> {
+        let mut rows = Vec::new(rt.alloc());
+        rows.push(ClassRow {
+            seq: 1,
+            component: 2,
+            edge: 4,
+        })?;
+        let mut out = MemorySink::with_room(rt.alloc(), 64, 7, Vec::new(rt.alloc()))?;
+        write_table(&mut out, &Rows::Classes(Listed::from_vec(rows)))?;
+        assert_eq!(rt; out.bytes(), b"seq,component,edge\n1,2,4\n".as_slice());
+        Ok(())
+    }
+
+    #[test]
+    fn ids_stand_one_a_line_under_the_header_of_their_table(rt: HostRuntime) -> Result<(), Fail> {
+        let ids = Vec::from_slice(rt.alloc(), [-3i64, 10].as_slice())?;
+        let mut out = MemorySink::with_room(rt.alloc(), 64, 7, Vec::new(rt.alloc()))?;
+        write_table(&mut out, &Rows::Nodes(Listed::from_vec(ids)))?;
+        assert_eq!(rt; out.bytes(), b"node\n-3\n10\n".as_slice());
+        let ids = Vec::from_slice(rt.alloc(), [4i64].as_slice())?;
+        let mut out = MemorySink::with_room(rt.alloc(), 64, 7, Vec::new(rt.alloc()))?;
+        write_table(&mut out, &Rows::Edges(Listed::from_vec(ids)))?;
+        assert_eq!(rt; out.bytes(), b"edge\n4\n".as_slice());
         Ok(())
     }
 
