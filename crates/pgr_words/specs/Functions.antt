@@ -13,9 +13,9 @@ use Rattle.pgr_words.specs.Options.{name_of, is_same}
 abbrev pub pair_options : List OptionName
 pair_options = Edges ∷ Start ∷ End ∷ Combinations ∷ Directed ∷ []
 
--- the options of a function that asks for classes of all vertices
-abbrev pub component_options : List OptionName
-component_options = Edges ∷ []
+-- the options of a function that asks about the edges as a whole
+abbrev pub edge_options : List OptionName
+edge_options = Edges ∷ []
 
 -- the options of a function that asks for all pairs of one list, in the same order
 abbrev pub matrix_options : List OptionName
@@ -28,8 +28,11 @@ driving_options = Edges ∷ Start ∷ Distance ∷ Directed ∷ Equicost ∷ []
 -- each function by what it is called, with its options
 abbrev pub functions : List (List ℕ × (Function × List OptionName))
 functions =
-    (codes "pgr_connectedComponents", (function.ConnectedComponents, component_options))
-    ∷ (codes "pgr_strongComponents", (function.StrongComponents, component_options))
+    (codes "pgr_connectedComponents", (function.ConnectedComponents, edge_options))
+    ∷ (codes "pgr_strongComponents", (function.StrongComponents, edge_options))
+    ∷ (codes "pgr_biconnectedComponents", (function.BiconnectedComponents, edge_options))
+    ∷ (codes "pgr_articulationPoints", (function.ArticulationPoints, edge_options))
+    ∷ (codes "pgr_bridges", (function.Bridges, edge_options))
     ∷ (codes "pgr_dijkstra", (function.Dijkstra, pair_options))
     ∷ (codes "pgr_dijkstraCost", (function.DijkstraCost, pair_options))
     ∷ (codes "pgr_dijkstraCostMatrix", (function.DijkstraCostMatrix, matrix_options))

@@ -16,6 +16,12 @@ pub enum Function {
     ConnectedComponents,
     /// `pgr_strongComponents`: the strongly connected classes of the vertices.
     StrongComponents,
+    /// `pgr_biconnectedComponents`: the blocks of the edges.
+    BiconnectedComponents,
+    /// `pgr_articulationPoints`: the vertices that join blocks.
+    ArticulationPoints,
+    /// `pgr_bridges`: the edges without which their ends are no longer joined.
+    Bridges,
     /// `pgr_drivingDistance`: the vertices within a distance of a start.
     DrivingDistance,
 }
@@ -29,8 +35,8 @@ const PAIR_OPTIONS: [OptionName; 5] = [
     OptionName::Directed,
 ];
 
-/// The options of a function that asks for classes of all vertices.
-const COMPONENT_OPTIONS: [OptionName; 1] = [OptionName::Edges];
+/// The options of a function that asks about the edges as a whole.
+const EDGE_OPTIONS: [OptionName; 1] = [OptionName::Edges];
 
 /// The options of a function that asks for all pairs of one list, in the same order.
 const MATRIX_OPTIONS: [OptionName; 3] = [OptionName::Edges, OptionName::Vids, OptionName::Directed];
@@ -50,8 +56,11 @@ impl Function {
         ensures { option_map (λ called. (called.0, called.1.now)) result ≡ function_named name.now }
     {
         match name {
-            "pgr_connectedComponents" => Some((Function::ConnectedComponents, &COMPONENT_OPTIONS)),
-            "pgr_strongComponents" => Some((Function::StrongComponents, &COMPONENT_OPTIONS)),
+            "pgr_connectedComponents" => Some((Function::ConnectedComponents, &EDGE_OPTIONS)),
+            "pgr_strongComponents" => Some((Function::StrongComponents, &EDGE_OPTIONS)),
+            "pgr_biconnectedComponents" => Some((Function::BiconnectedComponents, &EDGE_OPTIONS)),
+            "pgr_articulationPoints" => Some((Function::ArticulationPoints, &EDGE_OPTIONS)),
+            "pgr_bridges" => Some((Function::Bridges, &EDGE_OPTIONS)),
             "pgr_dijkstra" => Some((Function::Dijkstra, &PAIR_OPTIONS)),
             "pgr_dijkstraCost" => Some((Function::DijkstraCost, &PAIR_OPTIONS)),
             "pgr_dijkstraCostMatrix" => Some((Function::DijkstraCostMatrix, &MATRIX_OPTIONS)),
