@@ -1,11 +1,6 @@
-pub mod Linked
-pub mod Block
-pub mod ArticulationPoint
-pub mod Bridge
-pub mod Lists
-pub mod Forest
-pub mod Exploring
-pub mod Network
-pub mod Segment
-pub mod Seen
-pub mod Member
+pub mod Spans
+pub use Rattle.pgr_spans.specs.Linked
+pub use Rattle.pgr_spans.specs.Block
+pub use Rattle.pgr_spans.specs.ArticulationPoint
+pub use Rattle.pgr_spans.specs.Bridge
+pub use Rattle.pgr_spans.specs.Lists

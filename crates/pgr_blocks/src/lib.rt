@@ -1,29 +1,14 @@
-//! Blocks, articulation points and bridges of edges without directions, exact by separation.
+//! The spans of a table of edges, and their blocks, articulation points and bridges.
 //!
-//! A [`Span`] is an edge between two vertices. [`blocks`] gives three lists: each span with the name of its
-//! block, as [`Classed`], the articulation points, and the bridges.
-//! Proved: each of the three lists holds exactly what its own definition says, by separation, and rises
-//! (clauses `classes`, `points`, `bridges`). Not proved: time.
+//! [`spans_of`] lists the rows of a table that have a direction, as edges without one; what is said of spans and found for
+//! them is that of `pgr_spans`, whose types, calls, laws and definitions this crate passes on.
+//! Proved: the list has exactly the rows with a direction, each once, rising by edge, and meets what [`blocks`] asks for
+//! (clauses `spans`, `ends`). Not proved: time.
 #![tactic(auto)]
 
-mod answer;
-mod arrow;
-mod classed;
-mod laws;
-mod low_points;
-mod member;
-mod network;
-mod results;
-mod search;
-mod seen;
-mod segment;
-mod span;
-mod tops;
+mod spans;
 
-pub use answer::{BlockLists, blocks};
-pub use classed::Classed;
-pub use laws::ends_are_few;
-pub use span::Span;
-
-#[cfg(test)]
-mod tests;
+pub use pgr_spans::{
+    BlockLists, Classed, Span, blocks, ends_are_few, spans_of_one_block_have_one_name,
+};
+pub use spans::spans_of;

@@ -1,6 +1,0 @@
-use Rattle.pgr_blocks.specs.Segment.{AreItself}
-use Rattle.pgr_blocks.proofs.low_points.each_itself.Given as goal
-
--- the numbers so far
-abbrev pub invariant-loop-v : goal.invariant-loop-v
-invariant-loop-v l = AreItself l.v l.lows.items

@@ -1,7 +1,0 @@
-use Rattle.std.proofs.Common.{◌≡◌, map, take}
-use Rattle.pgr_blocks.specs.Network.{link_of}
-use Rattle.pgr_blocks.proofs.network.links_of.Given as goal
-
--- the spans so far have their links
-abbrev pub invariant-loop-span : goal.invariant-loop-span
-invariant-loop-span l = l.links.items ≡ map link_of (take l.span-index l.spans)

@@ -1,0 +1,11 @@
+pub mod Linked
+pub mod Block
+pub mod ArticulationPoint
+pub mod Bridge
+pub mod Lists
+pub mod Forest
+pub mod Exploring
+pub mod Network
+pub mod Segment
+pub mod Seen
+pub mod Member
