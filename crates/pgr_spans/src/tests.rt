@@ -111,7 +111,12 @@ fn each_span_of_a_long_path_is_a_block_and_a_bridge(rt: HostRuntime) -> Result<(
     ends_are_few(spans.as_slice());
     let lists = blocks(rt.alloc(), spans.as_slice())?;
     assert_eq!(rt; lists.classes.len(), LONG);
-    assert!(rt; lists.classes.iter().all(|class| class.component == class.edge));
+    assert!(rt;
+        lists
+            .classes
+            .iter()
+            .all(|class| class.component == class.edge)
+    );
     assert_eq!(rt; lists.points.len(), LONG - 1);
     assert_eq!(rt; lists.bridges.len(), LONG);
     Ok(())
