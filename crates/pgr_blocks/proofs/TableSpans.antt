@@ -104,7 +104,8 @@ less_edge o Less q e differ later = cc
 edges_rise : (spans sorted : List Span) → AllPairs (λ s t. s.edge ≢ t.edge) spans → IsPermutation spans sorted → IsSorted span_cmp sorted → HaveRisingEdges sorted
 edges_rise spans sorted differ moved in_order i j d before inside =
     let same : Span → Span → Bool = λ s t. int_eq s.edge t.edge in
-    let apart : IsDistinct same spans = IsDistinct-from_apart same spans (λ m n x m_before n_inside. other (get_or spans m x) (get_or spans n x) (differ m n x m_before n_inside)) in
+    let apart : IsDistinct same spans =
+    IsDistinct-from_apart same spans (λ m n x m_before n_inside. other (get_or spans m x) (get_or spans n x) (differ m n x m_before n_inside)) in
     let distinct : IsDistinct same sorted = IsDistinct-IsPermutation same (λ s t. int_eq_equiv.symm s.edge t.edge) spans sorted moved apart in
     let first = get_or sorted i d in
     let second = get_or sorted j d in
@@ -117,7 +118,8 @@ edges_rise spans sorted differ moved in_order i j d before inside =
     other s t apart = ⊎_elim (λ e. absurd (apart ((signed_Decides s.edge t.edge).0 e))) (λ e. e) (cases_Bool (int_eq s.edge t.edge))
 
 -- a sort leaves the spans of the rows, rising by edge
-pub sorted_spans : (rows : List EdgeRow) (i : ℕ) (spans sorted : List Span) → length rows ≤ i → AreSpansOfRows (take i rows) spans → IsPermutation spans sorted → IsSorted span_cmp sorted → AreSpansOf rows sorted
+pub sorted_spans : (rows : List EdgeRow) (i : ℕ) (spans sorted : List Span) → length rows ≤ i → AreSpansOfRows (take i rows) spans
+    → IsPermutation spans sorted → IsSorted span_cmp sorted → AreSpansOf rows sorted
 sorted_spans rows i spans sorted past so_far moved in_order =
     let are = subst (λ rs. AreSpansOfRows rs spans) (take_all i rows past) so_far in
     record {
