@@ -8,6 +8,7 @@ pub mod ClassTables
 pub mod AnswersAlong
 pub mod TablesFound
 pub mod SameElements
+pub mod BlockTables
 pub mod OneTable
 pub mod LeastCosts
 pub mod FirstRefusals

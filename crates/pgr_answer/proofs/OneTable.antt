@@ -25,6 +25,7 @@ use Rattle.pgr_answer.specs.Paths.{IsLeastBetween, IsPathTable, path_table}
 use Rattle.pgr_answer.specs.declared.tables.Tables.{Tables}
 use Rattle.pgr_answer.specs.Allowed.{IsAllowed, IsAllowedFor}
 use Rattle.pgr_answer.proofs.SameElements.{rising_is_one}
+use Rattle.pgr_answer.proofs.BlockTables.{one_class_table, one_point_table, one_bridge_table}
 use Rattle.pgr_answer.proofs.OneReachTable.{one_reach_table}
 
 -- the order of answers is total
@@ -120,6 +121,9 @@ module _ (Has : LinkOf ℤ → Type 0) (InClass : ℤ → ℤ → Type 0) where
 one_for : (f : Function) (command : Command) (tables : Tables) (rows other : Rows) → IsAllowedFor f command tables rows → IsAllowedFor f command tables other → rows ≡ other
 one_for function.ConnectedComponents command tables = one_part_table (IsLinkOfTable tables.edges false) (Connected (IsLinkOfTable tables.edges false))
 one_for function.StrongComponents command tables = one_part_table (IsLinkOfTable tables.edges true) (StronglyConnected (IsLinkOfTable tables.edges true))
+one_for function.BiconnectedComponents command tables = one_class_table tables
+one_for function.ArticulationPoints command tables = one_point_table tables
+one_for function.Bridges command tables = one_bridge_table tables
 one_for function.Dijkstra command tables = one_path_table (IsLinkOfTable tables.edges command.directed) (IsAsked command.starts command.ends tables.combinations)
 one_for function.DijkstraCost command tables = one_cost_table (IsLinkOfTable tables.edges command.directed) (IsAsked command.starts command.ends tables.combinations)
 one_for function.DijkstraCostMatrix command tables = one_cost_table (IsLinkOfTable tables.edges command.directed) (IsAskedOfMatrix command.vids)

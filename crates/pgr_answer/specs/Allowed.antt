@@ -8,6 +8,9 @@ use Rattle.pgr_answer.specs.declared.tables.Tables.{Tables}
 use Rattle.pgr_answer.specs.Files.{Content, files_of, AreAccepted}
 use Rattle.pgr_answer.specs.Contents.{tables_of}
 use Rattle.pgr_answer.specs.Components.{IsConnectedComponents, IsStrongComponents}
+use Rattle.pgr_answer.specs.BiconnectedComponents.{IsBiconnectedComponents}
+use Rattle.pgr_answer.specs.ArticulationPoints.{IsArticulationPoints}
+use Rattle.pgr_answer.specs.Bridges.{IsBridges}
 use Rattle.pgr_answer.specs.Dijkstra.{IsDijkstra}
 use Rattle.pgr_answer.specs.DijkstraCost.{IsDijkstraCost}
 use Rattle.pgr_answer.specs.DijkstraCostMatrix.{IsDijkstraCostMatrix}
@@ -17,6 +20,9 @@ use Rattle.pgr_answer.specs.DrivingDistance.{IsDrivingDistance}
 abbrev pub IsAllowedFor : Function → Command → Tables → Rows → Type 0
 IsAllowedFor function.ConnectedComponents command tables rows = IsConnectedComponents tables rows
 IsAllowedFor function.StrongComponents command tables rows = IsStrongComponents tables rows
+IsAllowedFor function.BiconnectedComponents command tables rows = IsBiconnectedComponents tables rows
+IsAllowedFor function.ArticulationPoints command tables rows = IsArticulationPoints tables rows
+IsAllowedFor function.Bridges command tables rows = IsBridges tables rows
 IsAllowedFor function.Dijkstra command tables rows = IsDijkstra command tables rows
 IsAllowedFor function.DijkstraCost command tables rows = IsDijkstraCost command tables rows
 IsAllowedFor function.DijkstraCostMatrix command tables rows = IsDijkstraCostMatrix command tables rows

@@ -10,6 +10,9 @@ pub mod Paths
 pub mod CostTables
 pub mod Components
 pub mod Members
+pub mod BiconnectedComponents
+pub mod ArticulationPoints
+pub mod Bridges
 pub mod Dijkstra
 pub mod DijkstraCost
 pub mod DijkstraCostMatrix

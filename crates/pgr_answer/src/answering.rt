@@ -8,6 +8,9 @@ ghost use Rattle.pgr_answer.specs.declared.role.Role.{Role as ARole};
 ghost use Rattle.pgr_answer.specs.declared.refused.Refused.{Refused as ARefused};
 
 use crate::answered::Answered;
+use crate::articulation_points::articulation_points_rows;
+use crate::biconnected_components::biconnected_components_rows;
+use crate::bridges::bridges_rows;
 use crate::components::{connected_components_rows, strong_components_rows};
 use crate::dijkstra::dijkstra_rows;
 use crate::dijkstra_cost::dijkstra_cost_rows;
@@ -65,6 +68,9 @@ fn allowed_rows(alloc: Global, command: &Command, tables: &Tables) -> Result<Row
     match command.function {
         Function::ConnectedComponents => connected_components_rows(alloc, tables),
         Function::StrongComponents => strong_components_rows(alloc, tables),
+        Function::BiconnectedComponents => biconnected_components_rows(alloc, tables),
+        Function::ArticulationPoints => articulation_points_rows(alloc, tables),
+        Function::Bridges => bridges_rows(alloc, tables),
         Function::Dijkstra => dijkstra_rows(alloc, command, tables),
         Function::DijkstraCost => dijkstra_cost_rows(alloc, command, tables),
         Function::DijkstraCostMatrix => dijkstra_cost_matrix_rows(alloc, command, tables),

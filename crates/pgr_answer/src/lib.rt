@@ -13,6 +13,9 @@
 
 mod answered;
 mod answering;
+mod articulation_points;
+mod biconnected_components;
+mod bridges;
 mod components;
 mod cost_rows;
 mod costs;
