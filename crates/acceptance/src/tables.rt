@@ -44,6 +44,15 @@ pub const PATHS: &str = "seq,path_seq,start_vid,end_vid,node,edge,cost,agg_cost\
 /// The header line of a table of components.
 pub const PARTS: &str = "seq,component,node\n";
 
+/// The header line of a table of blocks.
+pub const CLASSES: &str = "seq,component,edge\n";
+
+/// The header line of a table of vertices.
+pub const NODES: &str = "node\n";
+
+/// The header line of a table of edges.
+pub const EDGES: &str = "edge\n";
+
 /// The header line of a table of costs.
 pub const COSTS: &str = "start_vid,end_vid,agg_cost\n";
 
