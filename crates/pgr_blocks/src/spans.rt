@@ -54,11 +54,12 @@ mod tests {
     use pgr_table::read_edges;
     use std::test::Fail;
 
+    const TABLE: &[u8] =
+        b"id,source,target,cost,reverse_cost\n5,1,2,-1,4\n3,2,1,7,9\n4,6,6,0,-1\n1,8,9,-1,-2\n";
+
     #[test]
     fn a_row_with_either_direction_is_one_span(rt: HostRuntime) -> Result<(), Fail> {
-        let bytes =
-            b"id,source,target,cost,reverse_cost\n5,1,2,-1,4\n3,2,1,7,9\n4,6,6,0,-1\n1,8,9,-1,-2\n";
-        let table = read_edges(rt.alloc(), bytes, false)?;
+        let table = read_edges(rt.alloc(), TABLE, false)?;
         let spans = spans_of(rt.alloc(), &table)?;
         let expected = [
             Span {
