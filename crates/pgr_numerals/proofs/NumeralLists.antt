@@ -1,11 +1,13 @@
 -- Lists of numbers read part by part: what one more part does.
 use Rattle.std.proofs.Common.{◌≡◌, ℕ, ◌+◌, ◌<◌, ◌≤◌, Bool, true, false, List, [], ◌∷◌, ◌++◌, length, get_or, take, map, Option, Some, None, refl, sym, ap, ◌∙◌, arith, if◌then◌else◌, zero, suc, ℤ}
-use Rattle.std.specs.Prelude.{nat_le, option_map}
+use Rattle.std.specs.Prelude.{nat_le, option_map, ◌==◌}
 use Rattle.std.specs.List.{slice_split}
 use Rattle.std.proofs.lemmas.Bool.{lt-leb, le-leb}
 use Rattle.std.proofs.lemmas.List.{take_more, map-append, take_all, length_push}
 use Rattle.pgr_numerals.specs.Numeral.{i64_of}
-use Rattle.pgr_numerals.specs.NumeralList.{is_comma, all_of, i64_list_of}
+use Rattle.std.proofs.lemmas.List.Splits.{length-slice_split}
+use Rattle.std.proofs.lemmas.List.Sums.{count_by-le-length}
+use Rattle.pgr_numerals.specs.NumeralList.{is_comma, all_of, i64_list_of, numbers_of}
 
 -- one more value
 all_of-push : {X : Type 0} (os : List (Option X)) (xs : List X) (x : X) → all_of os ≡ Some xs → all_of (os ++ Some x ∷ []) ≡ Some (xs ++ x ∷ [])
@@ -79,3 +81,11 @@ all_read most n bytes numbers read whole =
     let fits = le-leb (length parts) most (omega (arith, read.within)) in
     let every = take_all n parts (omega arith) in
     rw fits (ap (λ ps. all_of (map i64_of ps)) (sym every) ∙ read.so_far)
+
+-- a list never has more parts than bytes and one, so this many bound nothing
+pub numbers-bounded : (bytes : List ℕ) → length bytes == 0 ≡ false → i64_list_of (length bytes + 1) bytes ≡ numbers_of bytes
+numbers-bounded [] some = cc some
+numbers-bounded (byte ∷ bytes) some =
+    let parts = length-slice_split is_comma (byte ∷ bytes) in
+    let few = count_by-le-length is_comma (byte ∷ bytes) in
+    rw (le-leb (length (slice_split is_comma (byte ∷ bytes))) (length (byte ∷ bytes) + 1) (omega arith)) refl

@@ -1,3 +1,4 @@
 pub mod Numeral
+pub mod Fraction
 pub mod NumeralList
 pub mod NumeralListLaws

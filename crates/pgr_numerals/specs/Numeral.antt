@@ -1,5 +1,5 @@
 -- Numerals: what digits, and digits with a sign, write. Zeros may stand in front; nothing is trimmed, and no plus sign is read.
-use Rattle.std.specs.Prelude.{ℕ, ◌+◌, ◌-◌, ◌^◌, ◌&&◌, Bool, not, List, [], ◌∷◌, if◌then◌else◌, nat_le, ◌==◌, ℤ, pos, negsuc, neg_ℤ, Option, Some, None, option_map, position, take, drop, length}
+use Rattle.std.specs.Prelude.{ℕ, ◌+◌, ◌-◌, ◌^◌, ◌&&◌, Bool, not, List, [], ◌∷◌, if◌then◌else◌, nat_le, ◌==◌, ℤ, pos, negsuc, neg_ℤ, Option, Some, None, option_map, option_and_then, unsigned_abs, position, take, drop, length}
 use Rattle.std.specs.List.{list_all}
 use Rattle.std.specs.Str.Parse.{digits_value}
 
@@ -21,6 +21,10 @@ i64_of (byte ∷ bytes) = if byte == 45 then option_map (λ n. neg_ℤ (pos n)) 
 abbrev pub id_of : List ℕ → Option ℤ
 id_of bytes = option_map pos (digits_up_to (2 ^ 63 - 1) bytes)
 
+-- an id from 1 on that the bytes write: digits, from 1 to 2^63 - 1
+abbrev pub positive_of : List ℕ → Option ℤ
+positive_of bytes = option_and_then (λ n. if n == 0 then None else Some (pos n)) (digits_up_to (2 ^ 63 - 1) bytes)
+
 -- one zero or more, and nothing else
 abbrev pub are_zeros : List ℕ → Bool
 are_zeros bytes = not (length bytes == 0) && list_all (λ b. b == 48) bytes
@@ -38,3 +42,7 @@ whole_of bytes = whole_around bytes (position (λ b. b == 46) bytes)
 abbrev pub whole_or_empty : List ℕ → Option ℤ
 whole_or_empty [] = Some (negsuc 0)
 whole_or_empty (byte ∷ bytes) = whole_of (byte ∷ bytes)
+
+-- the whole number that the bytes write, with an absolute value of at most this
+abbrev pub whole_within : ℕ → List ℕ → Option ℤ
+whole_within most bytes = option_and_then (λ z. if nat_le (unsigned_abs z) most then Some z else None) (whole_of bytes)

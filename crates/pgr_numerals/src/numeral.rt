@@ -1,5 +1,5 @@
 ghost use Rattle.std.specs.Prelude.{◌≡◌, ◌+◌, ◌*◌, ◌-◌, ◌&&◌, nat_le, if◌then◌else◌};
-ghost use Rattle.pgr_numerals.specs.Numeral.{is_digit, digits_up_to, i64_of, id_of};
+ghost use Rattle.pgr_numerals.specs.Numeral.{is_digit, digits_up_to, i64_of, id_of, positive_of};
 
 /// The number that the bytes write in decimal digits, or none where it is above `most`.
 ///
@@ -43,6 +43,19 @@ pub fn read_id(bytes: &[u8]) -> Option<i64>
     i64::try_from(id).ok()
 }
 
+/// The id that the bytes write in decimal digits, from 1 to 2^63 - 1.
+///
+/// It is read as [`read_id`] reads one, but that 0 is none.
+pub fn read_positive(bytes: &[u8]) -> Option<i64>
+    ensures { result ≡ positive_of bytes.now }
+{
+    let id = read_digits(bytes, i64::MAX.unsigned_abs())?;
+    if id == 0 {
+        return None;
+    }
+    i64::try_from(id).ok()
+}
+
 /// The number with one more digit behind it, or none where the byte is no digit or the number is above `most`.
 fn with_digit(value: u64, byte: u8, most: u64) -> Option<u64>
     ensures { let grown = value * 10 + (byte - 48) in
@@ -78,5 +91,14 @@ mod tests {
         assert_eq!(rt; read_i64(b"-12"), Some(-12));
         assert_eq!(rt; read_i64(b"-9223372036854775808"), Some(i64::MIN));
         assert_eq!(rt; read_i64(b"12-"), None);
+    }
+
+    #[test]
+    fn zero_is_an_id_and_not_a_positive_one(rt: HostRuntime) {
+        assert_eq!(rt; read_id(b"00"), Some(0));
+        assert_eq!(rt; read_positive(b"00"), None);
+        assert_eq!(rt; read_positive(b"01"), Some(1));
+        assert_eq!(rt; read_positive(b"9223372036854775807"), Some(i64::MAX));
+        assert_eq!(rt; read_positive(b"9223372036854775808"), None);
     }
 }

@@ -1,6 +1,6 @@
 ghost use Rattle.std.specs.Prelude.{◌≡◌, ◌==◌, ◌<◌, length, position, IfSome};
 ghost use Rattle.std.specs.List.{list_all};
-ghost use Rattle.pgr_numerals.specs.Numeral.{are_zeros, whole_of, whole_or_empty};
+ghost use Rattle.pgr_numerals.specs.Numeral.{are_zeros, whole_of, whole_or_empty, whole_within};
 
 use crate::numeral::read_i64;
 
@@ -31,8 +31,19 @@ pub fn read_whole_or_empty(bytes: &[u8]) -> Option<i64>
     read_whole(bytes)
 }
 
+/// The whole number that the bytes write, as [`read_whole`] reads it, or none where its absolute value is above `most`.
+pub fn read_whole_within(bytes: &[u8], most: u64) -> Option<i64>
+    ensures { result ≡ whole_within most bytes.now }
+{
+    let whole = read_whole(bytes)?;
+    if whole.unsigned_abs() > most {
+        return None;
+    }
+    Some(whole)
+}
+
 /// The place of the first full stop.
-fn full_stop(bytes: &[u8]) -> Option<usize>
+pub(crate) fn full_stop(bytes: &[u8]) -> Option<usize>
     ensures place { result ≡ position (λ b. b == 46) bytes.now }
     ensures within { IfSome result (λ stop. stop < length bytes.now) }
 {
@@ -40,7 +51,7 @@ fn full_stop(bytes: &[u8]) -> Option<usize>
 }
 
 /// Whether the bytes are zeros, and at least one.
-fn are_only_zeros(bytes: &[u8]) -> bool
+pub(crate) fn are_only_zeros(bytes: &[u8]) -> bool
     ensures { result ≡ are_zeros bytes.now }
 {
     !bytes.is_empty() && have_no_other(bytes)
@@ -72,5 +83,8 @@ mod tests {
         }
         assert_eq!(rt; read_whole_or_empty(b""), Some(-1));
         assert_eq!(rt; read_whole_or_empty(b"7.0"), Some(7));
+        assert_eq!(rt; read_whole_within(b"-7.0", 7), Some(-7));
+        assert_eq!(rt; read_whole_within(b"-8", 7), None);
+        assert_eq!(rt; read_whole_within(b"-9223372036854775808", u64::MAX), Some(i64::MIN));
     }
 }
