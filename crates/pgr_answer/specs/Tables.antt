@@ -1,5 +1,5 @@
 -- The tables that a command asks about, one of each kind: what contents of its files are.
-use Rattle.std.specs.Prelude.{ℕ, List, [], fold, Result, Ok, Err}
+use Rattle.std.specs.Prelude.{ℕ, false, List, [], fold, Result, Ok, Err}
 use Rattle.pgr_table.specs.Edges.{judged_edges}
 use Rattle.pgr_table.specs.Pairs.{judged_pairs}
 use Rattle.pgr_table.specs.declared.fault.TableFault.{TableFault}
@@ -18,5 +18,5 @@ put place (Err fault) = Err fault
 
 -- the verdict on the bytes of a table of this kind: where its rows belong among the tables, or its first fault
 abbrev pub judged_as : Kind → List ℕ → Result (Tables → Tables) TableFault
-judged_as Edges bytes = put (λ rows tables. record tables { edges = rows }) (judged_edges bytes)
+judged_as Edges bytes = put (λ rows tables. record tables { edges = rows }) (judged_edges false bytes)
 judged_as Combinations bytes = put (λ rows tables. record tables { combinations = rows }) (judged_pairs bytes)

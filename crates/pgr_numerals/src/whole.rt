@@ -85,6 +85,9 @@ mod tests {
         assert_eq!(rt; read_whole_or_empty(b"7.0"), Some(7));
         assert_eq!(rt; read_whole_within(b"-7.0", 7), Some(-7));
         assert_eq!(rt; read_whole_within(b"-8", 7), None);
-        assert_eq!(rt; read_whole_within(b"-9223372036854775808", u64::MAX), Some(i64::MIN));
+        assert_eq!(rt;
+            read_whole_within(b"-9223372036854775808", u64::MAX),
+            Some(i64::MIN)
+        );
     }
 }

@@ -84,13 +84,13 @@ found-place name header found place e so_far = ap (λ (l : List ℕ). slice_get 
     by (Some first) = refl
 
 pub found-missing : (rule : Rule) (name : List ℕ) (header : List (List ℕ)) (found : Option ℕ) (place : ℕ) → place ≡ length header
-    → AreFound name header found place → is_none found ≡ true → is_none rule.absent ≡ true
+    → AreFound name header found place → is_none found ≡ true → rule.required ≡ true
     → fault_at rule (places_from 0 name header) ≡ Some (MissingColumn rule.column)
 found-missing rule name header None place e so_far n a = ap (fault_at rule) (found-all name header None place e so_far) ∙ rw a refl
 found-missing rule name header (Some first) place e so_far n a = cc n
 
 pub found-good : (rule : Rule) (name : List ℕ) (header : List (List ℕ)) (found : Option ℕ) (place : ℕ) → place ≡ length header
-    → AreFound name header found place → (is_none found ≡ true → is_none rule.absent ≡ false)
+    → AreFound name header found place → (is_none found ≡ true → rule.required ≡ false)
     → fault_at rule (places_from 0 name header) ≡ None
 found-good rule name header None place e so_far a = ap (fault_at rule) (found-all name header None place e so_far) ∙ rw (a refl) refl
 found-good rule name header (Some first) place e so_far a = ap (fault_at rule) (found-all name header (Some first) place e so_far)

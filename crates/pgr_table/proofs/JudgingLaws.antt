@@ -1,24 +1,25 @@
 -- Laws of judging: a fault is decided by the records up to its own alone.
-use Rattle.std.proofs.Common.{◌≡◌, ℕ, zero, suc, List, [], ◌∷◌, ◌++◌, length, map, take, slice_get, Option, Some, None, Err, refl, ap, ◌∙◌, append_assoc, append-nil, ℤ}
+use Rattle.std.proofs.Common.{◌≡◌, ℕ, zero, suc, List, [], ◌∷◌, ◌++◌, length, map, take, slice_get, Option, Some, None, Err, refl, ap, ◌∙◌, append_assoc, append-nil}
 use Rattle.std.specs.Option.{option_or}
 use Rattle.std.specs.Prelude.{option_map}
 use Rattle.pgr_table.specs.declared.kind.Rule.{Rule}
 use Rattle.pgr_table.specs.declared.found.Found.{Found}
+use Rattle.pgr_table.specs.declared.field_value.FieldValue.{FieldValue}
 use Rattle.pgr_table.specs.declared.fault.TableFault.{TableFault}
 use Rattle.pgr_table.specs.Judging.{first_of, columns_fault, found_in, row_of, fault_of_record, faults_behind, verdict, judged_records}
 
 -- the fault at a place is that of the record there, behind the rows of the records before it
-pub faults_behind-at : (columns : List Found) (width : ℕ) (rows : List (List ℤ)) (later : List (List (List ℕ))) (k : ℕ)
+pub faults_behind-at : (columns : List Found) (width : ℕ) (rows : List (List FieldValue)) (later : List (List (List ℕ))) (k : ℕ)
     → slice_get (faults_behind columns width rows later) k ≡ option_map (fault_of_record columns width (rows ++ map (row_of columns) (take k later))) (slice_get later k)
 faults_behind-at columns width rows [] k = refl
 faults_behind-at columns width rows (fields ∷ later) zero = rw (append-nil rows) refl
 faults_behind-at columns width rows (fields ∷ later) (suc k) =
     faults_behind-at columns width (rows ++ row_of columns fields ∷ []) later k
-    ∙ ap (λ (l : List (List ℤ)). option_map (fault_of_record columns width l) (slice_get later k)) (append_assoc rows (row_of columns fields ∷ [])
+    ∙ ap (λ (l : List (List FieldValue)). option_map (fault_of_record columns width l) (slice_get later k)) (append_assoc rows (row_of columns fields ∷ [])
     (map (row_of columns) (take k later)))
 
 -- a fault of the first records stays the first, whatever follows
-faults_behind-front : (columns : List Found) (width : ℕ) (rows : List (List ℤ)) (front more : List (List (List ℕ))) (fault : TableFault)
+faults_behind-front : (columns : List Found) (width : ℕ) (rows : List (List FieldValue)) (front more : List (List (List ℕ))) (fault : TableFault)
     → first_of (faults_behind columns width rows front) ≡ Some fault
     → first_of (faults_behind columns width rows (front ++ more)) ≡ Some fault
 faults_behind-front columns width rows [] more fault h = cc h

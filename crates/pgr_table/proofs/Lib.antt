@@ -1,7 +1,13 @@
 mod EdgeFacts
+mod CapacityFacts
+mod PairFacts
+mod PointFacts
+mod RestrictionFacts
 mod Examples
+mod FieldValues
 mod HeaderFacts
 mod JudgingLaws
+mod Keyed
 mod ReadOn
 mod RecordFacts
 mod Verdicts

@@ -1,5 +1,5 @@
 -- The row of a record, its sum, and the faults of a record.
-use Rattle.std.proofs.Common.{◌≡◌, ℕ, ◌+◌, ◌<◌, ◌≤◌, Bool, true, false, List, [], ◌∷◌, ◌++◌, length, Option, Some, None, refl, sym, ap, ◌∙◌, arith, eq-eqb, if◌then◌else◌, slice_get, inl, inr, ℤ, pos, zero, suc, get_or, drop, zero-add, add-one}
+use Rattle.std.proofs.Common.{◌≡◌, ℕ, ◌+◌, ◌<◌, ◌≤◌, Bool, true, false, List, [], ◌∷◌, ◌++◌, length, Option, Some, None, refl, sym, ap, ◌∙◌, arith, eq-eqb, if◌then◌else◌, slice_get, inl, inr, zero, suc, get_or, drop, zero-add, add-one}
 use Rattle.std.proofs.lemmas.List.{length-map}
 use Rattle.std.specs.Prelude.{IsNone, option_and_then}
 use Rattle.std.specs.List.{zip}
@@ -12,61 +12,64 @@ use Rattle.pgr_table.specs.declared.fault.TableFault.TheVariants.{UnevenRecord, 
 use Rattle.pgr_table.specs.declared.kind.Check.{Check}
 use Rattle.pgr_table.specs.declared.kind.Check.TheVariants.{Free, Distinct, Summed}
 use Rattle.pgr_table.specs.Kinds.{value_of, is_summed}
-use Rattle.pgr_table.specs.Rows.{counted, most_rows, greatest}
+use Rattle.pgr_table.specs.Rows.{counted, most_rows, most_elements, greatest}
+use Rattle.pgr_table.specs.Values.{number_of, numbers_in}
+use Rattle.pgr_table.specs.declared.field_value.FieldValue.{FieldValue}
 use Rattle.pgr_table.specs.Kept.{IsValue, IsRow}
-use Rattle.pgr_table.specs.Judging.{value_at, value_in, bad_column, row_of, rules_of, is_repeat, sum_of, sum_of_row, record_fault, fault_of_record}
+use Rattle.pgr_table.specs.Judging.{value_at, value_in, bad_column, row_of, rules_of, is_repeat, elements_of, elements_of_row, sum_of, sum_of_row, record_fault, fault_of_record}
 
 -- the value of a column is one that it may have
-value_at-value : (rule : Rule) (fields : List (List ℕ)) (place : Option ℕ) (value : ℤ) → value_at rule fields place ≡ Some value → IsValue rule value
-value_at-value rule fields None value h = inr h
+value_at-value : (rule : Rule) (fields : List (List ℕ)) (place : Option ℕ) (value : FieldValue) → value_at rule fields place ≡ Some value → IsValue rule value
+value_at-value rule fields None value h = ([], h)
 value_at-value rule fields (Some place) value h = by (slice_get fields place) h
   where
     by : (field : Option (List ℕ)) → option_and_then (value_of rule.grammar) field ≡ Some value → IsValue rule value
     by None e = cc e
-    by (Some field) e = inl (field, e)
+    by (Some field) e = (field, e)
 
 -- where no column is bad, the row has a value for each
 pub row_of-row : (columns : List Found) (fields : List (List ℕ)) → bad_column columns fields ≡ None → IsRow (rules_of columns) (row_of columns fields)
 row_of-row [] fields h = tt
 row_of-row (column ∷ columns) fields h = by (value_in fields column) refl h (row_of-row columns fields)
   where
-    by : (o : Option ℤ) → value_in fields column ≡ o → bad_column (column ∷ columns) fields ≡ None
+    by : (o : Option FieldValue) → value_in fields column ≡ o → bad_column (column ∷ columns) fields ≡ None
         → (bad_column columns fields ≡ None → IsRow (rules_of columns) (row_of columns fields))
         → IsRow (rules_of (column ∷ columns)) (row_of (column ∷ columns) fields)
     by None e n more = let bad : bad_column (column ∷ columns) fields ≡ Some column.rule.column = rw e refl in cc (sym bad ∙ n)
     by (Some value) e n more = let rest : bad_column columns fields ≡ None = rw e at n in rw e (value_at-value column.rule fields column.place value e, more rest)
 
-pub IsRow-length : (kind : List Rule) (row : List ℤ) → IsRow kind row → length row ≡ length kind
+pub IsRow-length : (kind : List Rule) (row : List FieldValue) → IsRow kind row → length row ≡ length kind
 IsRow-length [] [] h = refl
 IsRow-length [] (value ∷ row) h = absurd h
 IsRow-length (rule ∷ kind) [] h = absurd h
 IsRow-length (rule ∷ kind) (value ∷ row) h = let rest = IsRow-length kind row h.1 in omega (arith, rest)
 
 -- what a value counts in the sum of its row
-abbrev count_of : Rule × ℤ → ℕ
-count_of value = if is_summed value.0.check then counted value.1 else 0
+abbrev count_of : Rule × FieldValue → ℕ
+count_of value = if is_summed value.0.check then counted (number_of value.1) else 0
 
 -- what a column counts in the sum of a row, by whether it is summed
-summed-head : (kind : List Rule) (row : List ℤ) (rule : Rule) (value : ℤ) → rule.check ≡ Summed → sum_of_row (rule ∷ kind) (value ∷ row) ≡ counted value + sum_of_row kind row
+summed-head : (kind : List Rule) (row : List FieldValue) (rule : Rule) (value : FieldValue) → rule.check ≡ Summed → sum_of_row (rule ∷ kind) (value ∷ row) ≡ counted (number_of value) + sum_of_row kind row
 summed-head kind row rule value e = sum_by-cons (count_of) (rule, value) (zip kind row) ∙ rw e refl
 
-free-head : (kind : List Rule) (row : List ℤ) (rule : Rule) (value : ℤ) → (rule.check ≡ Summed → ⊥) → sum_of_row (rule ∷ kind) (value ∷ row) ≡ sum_of_row kind row
+free-head : (kind : List Rule) (row : List FieldValue) (rule : Rule) (value : FieldValue) → (rule.check ≡ Summed → ⊥) → sum_of_row (rule ∷ kind) (value ∷ row) ≡ sum_of_row kind row
 free-head kind row rule value n = sum_by-cons (count_of) (rule, value) (zip kind row) ∙ by rule.check n
   where
-    by : (check : Check) → (check ≡ Summed → ⊥) → (if is_summed check then counted value else 0) + sum_of_row kind row ≡ sum_of_row kind row
+    by : (check : Check) → (check ≡ Summed → ⊥) → (if is_summed check then counted (number_of value) else 0) + sum_of_row kind row ≡ sum_of_row kind row
     by Summed = λ no. absurd (no refl)
     by Free = λ no. zero-add (sum_of_row kind row)
     by Distinct = λ no. zero-add (sum_of_row kind row)
 
 -- the sum of what is left of a row, by the column at a place
-left-summed : (columns : List Found) (row : List ℤ) (place : ℕ) (d : Found) → place < length columns → length row ≡ length columns → (get_or columns place d).rule.check ≡ Summed
-    → sum_of_row (rules_of (drop place columns)) (drop place row) ≡ counted (get_or row place (pos 0)) + sum_of_row (rules_of (drop (suc place) columns)) (drop (suc place) row)
-left-summed [] row place d h e s = absurd (omega arith)
-left-summed (column ∷ columns) [] place d h e s = absurd (omega arith)
-left-summed (column ∷ columns) (value ∷ row) zero d h e s = summed-head (rules_of columns) row column.rule value s
-left-summed (column ∷ columns) (value ∷ row) (suc place) d h e s = left-summed columns row place d (omega arith) (omega arith) s
+left-summed : (columns : List Found) (row : List FieldValue) (place : ℕ) (d : Found) (value : FieldValue) → place < length columns → length row ≡ length columns
+    → (get_or columns place d).rule.check ≡ Summed → value ≡ get_or row place value
+    → sum_of_row (rules_of (drop place columns)) (drop place row) ≡ counted (number_of value) + sum_of_row (rules_of (drop (suc place) columns)) (drop (suc place) row)
+left-summed [] row place d value h e s is = absurd (omega arith)
+left-summed (column ∷ columns) [] place d value h e s is = absurd (omega arith)
+left-summed (column ∷ columns) (first ∷ row) zero d value h e s is = rw is (summed-head (rules_of columns) row column.rule first s)
+left-summed (column ∷ columns) (first ∷ row) (suc place) d value h e s is = left-summed columns row place d value (omega arith) (omega arith) s is
 
-left-free : (columns : List Found) (row : List ℤ) (place : ℕ) (d : Found) → place < length columns → length row ≡ length columns
+left-free : (columns : List Found) (row : List FieldValue) (place : ℕ) (d : Found) → place < length columns → length row ≡ length columns
     → ((get_or columns place d).rule.check ≡ Summed → ⊥)
     → sum_of_row (rules_of (drop place columns)) (drop place row) ≡ sum_of_row (rules_of (drop (suc place) columns)) (drop (suc place) row)
 left-free [] row place d h e s = absurd (omega arith)
@@ -75,72 +78,87 @@ left-free (column ∷ columns) (value ∷ row) zero d h e s = free-head (rules_o
 left-free (column ∷ columns) (value ∷ row) (suc place) d h e s = left-free columns row place d (omega arith) (omega arith) s
 
 -- the sum so far and what is left of the row, after one more column
-pub sum-summed : (columns : List Found) (row : List ℤ) (place : ℕ) (d : Found) (all grown next : ℕ) → place < length columns → length row ≡ length columns
-    → (get_or columns place d).rule.check ≡ Summed
-    → next ≡ grown + counted (get_or row place (pos 0)) → all ≡ grown + sum_of_row (rules_of (drop place columns)) (drop place row)
+pub sum-summed : (columns : List Found) (row : List FieldValue) (place : ℕ) (d : Found) (value : FieldValue) (all grown next : ℕ) → place < length columns
+    → length row ≡ length columns → (get_or columns place d).rule.check ≡ Summed → value ≡ get_or row place value
+    → next ≡ grown + counted (number_of value) → all ≡ grown + sum_of_row (rules_of (drop place columns)) (drop place row)
     → all ≡ next + sum_of_row (rules_of (drop (place + 1) columns)) (drop (place + 1) row)
-sum-summed columns row place d all grown next h e s n a = rw add-one (omega (arith, left-summed columns row place d h e s))
+sum-summed columns row place d value all grown next h e s is n a = rw add-one (omega (arith, left-summed columns row place d value h e s is))
 
-pub sum-free : (columns : List Found) (row : List ℤ) (place : ℕ) (d : Found) (all grown next : ℕ) → place < length columns → length row ≡ length columns
+pub sum-free : (columns : List Found) (row : List FieldValue) (place : ℕ) (d : Found) (all grown next : ℕ) → place < length columns → length row ≡ length columns
     → ((get_or columns place d).rule.check ≡ Summed → ⊥)
     → next ≡ grown → all ≡ grown + sum_of_row (rules_of (drop place columns)) (drop place row)
     → all ≡ next + sum_of_row (rules_of (drop (place + 1) columns)) (drop (place + 1) row)
 sum-free columns row place d all grown next h e s n a = rw add-one (omega (arith, left-free columns row place d h e s))
 
 -- the sum of rows and one more
-pub sum_of-push : (kind : List Rule) (rows : List (List ℤ)) (row : List ℤ) → sum_of kind (rows ++ row ∷ []) ≡ sum_of kind rows + sum_of_row kind row
+pub sum_of-push : (kind : List Rule) (rows : List (List FieldValue)) (row : List FieldValue) → sum_of kind (rows ++ row ∷ []) ≡ sum_of kind rows + sum_of_row kind row
 sum_of-push kind rows row = sum_by-append (sum_of_row kind) rows (row ∷ []) ∙ ap (λ n. sum_of kind rows + n) (zero-add (sum_of_row kind row))
 
+-- the elements of rows and one more
+pub elements_of-push : (rows : List (List FieldValue)) (row : List FieldValue) → elements_of (rows ++ row ∷ []) ≡ elements_of rows + elements_of_row row
+elements_of-push rows row = sum_by-append elements_of_row rows (row ∷ []) ∙ ap (λ n. elements_of rows + n) (zero-add (elements_of_row row))
+
 -- the fault of a record by its tests
-by_tests : (number : ℕ) (many many' even even' known known' small small' : Bool) (bad bad' : Option Column) → many ≡ many' → even ≡ even' → bad ≡ bad'
-    → known ≡ known' → small ≡ small'
-    → record_fault number many even bad known small ≡ record_fault number many' even' bad' known' small'
-by_tests number many many' even even' known known' small small' bad bad' a b c d e = rw (a, b, c, d, e) refl
+by_tests : (number : ℕ) (many many' even even' known known' few few' small small' : Bool) (bad bad' : Option Column) → many ≡ many' → even ≡ even' → bad ≡ bad'
+    → known ≡ known' → few ≡ few' → small ≡ small'
+    → record_fault number many even bad known few small ≡ record_fault number many' even' bad' known' few' small'
+by_tests number many many' even even' known known' few few' small small' bad bad' a b c d f e = rw (a, b, c, d, f, e) refl
 
 -- the tests that a record passes before its fields are read
-pub record Passes (width : ℕ) (rows : List (List ℤ)) (fields : List (List ℕ)) : Type 0 where
+pub record Passes (width : ℕ) (rows : List (List FieldValue)) (fields : List (List ℕ)) : Type 0 where
   pub few : length rows < most_rows
   pub even : length fields ≡ width
 
+-- the tests that its row passes before the elements of its list are counted
+pub record IsGood (columns : List Found) (rows : List (List FieldValue)) (fields : List (List ℕ)) : Type 0 where
+  pub good : bad_column columns fields ≡ None
+  pub new : is_repeat (rules_of columns) rows (row_of columns fields) ≡ false
+
 -- the faults of a record, each with what comes before it
-pub fault-many : (columns : List Found) (width : ℕ) (rows : List (List ℤ)) (fields : List (List ℕ)) → most_rows ≤ length rows
+pub fault-many : (columns : List Found) (width : ℕ) (rows : List (List FieldValue)) (fields : List (List ℕ)) → most_rows ≤ length rows
     → fault_of_record columns width rows fields ≡ Some (TooManyRows (length rows + 2))
-fault-many columns width rows fields many = by_tests _ _ true _ _ _ _ _ _ _ _ (le-leb most_rows (length rows) many) refl refl refl refl
+fault-many columns width rows fields many = by_tests _ _ true _ _ _ _ _ _ _ _ _ _ (le-leb most_rows (length rows) many) refl refl refl refl refl
 
-pub fault-uneven : (columns : List Found) (width : ℕ) (rows : List (List ℤ)) (fields : List (List ℕ)) → length rows < most_rows → (length fields ≡ width → ⊥)
+pub fault-uneven : (columns : List Found) (width : ℕ) (rows : List (List FieldValue)) (fields : List (List ℕ)) → length rows < most_rows → (length fields ≡ width → ⊥)
     → fault_of_record columns width rows fields ≡ Some (UnevenRecord (length rows + 2))
-fault-uneven columns width rows fields few uneven = by_tests _ _ false _ false _ _ _ _ _ _ (lt-leb most_rows (length rows) few) (ne_eqb (length fields) width uneven) refl refl refl
+fault-uneven columns width rows fields few uneven = by_tests _ _ false _ false _ _ _ _ _ _ _ _ (lt-leb most_rows (length rows) few)
+    (ne_eqb (length fields) width uneven) refl refl refl refl
 
-pub fault-field : (columns : List Found) (width : ℕ) (rows : List (List ℤ)) (fields : List (List ℕ)) (column : Column) → Passes width rows fields
+pub fault-field : (columns : List Found) (width : ℕ) (rows : List (List FieldValue)) (fields : List (List ℕ)) (column : Column) → Passes width rows fields
     → bad_column columns fields ≡ Some column
     → fault_of_record columns width rows fields ≡ Some (BadField (length rows + 2) column)
-fault-field columns width rows fields column p bad = by_tests _ _ false _ true _ _ _ _ _ (Some column) (lt-leb most_rows (length rows) p.few)
-    (eq-eqb (length fields) width p.even) bad refl refl
+fault-field columns width rows fields column p bad = by_tests _ _ false _ true _ _ _ _ _ _ _ (Some column) (lt-leb most_rows (length rows) p.few)
+    (eq-eqb (length fields) width p.even) bad refl refl refl
 
-pub fault-known : (columns : List Found) (width : ℕ) (rows : List (List ℤ)) (fields : List (List ℕ)) → Passes width rows fields
+pub fault-known : (columns : List Found) (width : ℕ) (rows : List (List FieldValue)) (fields : List (List ℕ)) → Passes width rows fields
     → bad_column columns fields ≡ None → is_repeat (rules_of columns) rows (row_of columns fields) ≡ true
     → fault_of_record columns width rows fields ≡ Some (DuplicateId (length rows + 2))
-fault-known columns width rows fields p good known = by_tests _ _ false _ true _ true _ _ _ None (lt-leb most_rows (length rows) p.few)
-    (eq-eqb (length fields) width p.even) good known refl
+fault-known columns width rows fields p good known = by_tests _ _ false _ true _ true _ _ _ _ _ None (lt-leb most_rows (length rows) p.few)
+    (eq-eqb (length fields) width p.even) good known refl refl
 
-pub fault-sum : (columns : List Found) (width : ℕ) (rows : List (List ℤ)) (fields : List (List ℕ)) → Passes width rows fields → bad_column columns fields ≡ None
-    → is_repeat (rules_of columns) rows (row_of columns fields) ≡ false
+pub fault-elements : (columns : List Found) (width : ℕ) (rows : List (List FieldValue)) (fields : List (List ℕ)) → Passes width rows fields → IsGood columns rows fields
+    → most_elements < elements_of (rows ++ row_of columns fields ∷ []) → fault_of_record columns width rows fields ≡ Some (TooManyRows (length rows + 2))
+fault-elements columns width rows fields p good above = by_tests _ _ false _ true _ false _ false _ _ _ None (lt-leb most_rows (length rows) p.few)
+    (eq-eqb (length fields) width p.even) good.good good.new (lt-leb _ most_elements above) refl
+
+pub fault-sum : (columns : List Found) (width : ℕ) (rows : List (List FieldValue)) (fields : List (List ℕ)) → Passes width rows fields → IsGood columns rows fields
+    → elements_of (rows ++ row_of columns fields ∷ []) ≤ most_elements
     → greatest < sum_of (rules_of columns) (rows ++ row_of columns fields ∷ []) → fault_of_record columns width rows fields ≡ Some (CostSum (length rows + 2))
-fault-sum columns width rows fields p good new above = by_tests _ _ false _ true _ false _ false _ None (lt-leb most_rows (length rows) p.few)
-    (eq-eqb (length fields) width p.even) good new (lt-leb _ greatest above)
+fault-sum columns width rows fields p good few above = by_tests _ _ false _ true _ false _ true _ false _ None (lt-leb most_rows (length rows) p.few)
+    (eq-eqb (length fields) width p.even) good.good good.new (le-leb _ most_elements few) (lt-leb _ greatest above)
 
-pub fault-none : (columns : List Found) (width : ℕ) (rows : List (List ℤ)) (fields : List (List ℕ)) → Passes width rows fields
-    → bad_column columns fields ≡ None → is_repeat (rules_of columns) rows (row_of columns fields) ≡ false
+pub fault-none : (columns : List Found) (width : ℕ) (rows : List (List FieldValue)) (fields : List (List ℕ)) → Passes width rows fields → IsGood columns rows fields
+    → elements_of (rows ++ row_of columns fields ∷ []) ≤ most_elements
     → sum_of (rules_of columns) (rows ++ row_of columns fields ∷ []) ≤ greatest → fault_of_record columns width rows fields ≡ None
-fault-none columns width rows fields p good new within = by_tests _ _ false _ true _ false _ true _ None (lt-leb most_rows (length rows) p.few)
-    (eq-eqb (length fields) width p.even) good new (le-leb _ greatest within)
+fault-none columns width rows fields p good few within = by_tests _ _ false _ true _ false _ true _ true _ None (lt-leb most_rows (length rows) p.few)
+    (eq-eqb (length fields) width p.even) good.good good.new (le-leb _ most_elements few) (le-leb _ greatest within)
 
 -- the values that were read make a row of the kind, where no column was bad
 none_from : (o : Option Column) → ((column : Column) → o ≡ Some column → ⊥) → o ≡ None
 none_from None never = refl
 none_from (Some column) never = absurd (never column refl)
 
-pub read-row : (columns : List Found) (fields : List (List ℕ)) (bad : Option Column) (values : List ℤ) (kind : List Rule) → bad ≡ bad_column columns fields
+pub read-row : (columns : List Found) (fields : List (List ℕ)) (bad : Option Column) (values : List FieldValue) (kind : List Rule) → bad ≡ bad_column columns fields
     → (IsNone bad → values ≡ row_of columns fields)
     → ((column : Column) → bad ≡ Some column → ⊥) → rules_of columns ≡ kind → IsRow kind values
 read-row columns fields bad values kind is row never same =
@@ -151,5 +169,5 @@ read-row columns fields bad values kind is row never same =
     is_none-from None e = refl
     is_none-from (Some column) e = cc e
 
-pub row-length : (columns : List Found) (values : List ℤ) (kind : List Rule) → IsRow kind values → rules_of columns ≡ kind → length values ≡ length columns
+pub row-length : (columns : List Found) (values : List FieldValue) (kind : List Rule) → IsRow kind values → rules_of columns ≡ kind → length values ≡ length columns
 row-length columns values kind row same = IsRow-length kind values row ∙ (ap length (sym same) ∙ length-map columns (λ (column : Found). column.rule))

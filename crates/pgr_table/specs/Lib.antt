@@ -1,9 +1,14 @@
 pub mod Columns
 pub mod FaultText
 pub mod Rows
+pub mod Values
 pub mod Kinds
 pub mod Judging
 pub mod Edges
+pub mod Capacities
+pub mod Points
+pub mod Restrictions
 pub mod Pairs
+pub mod Totals
 pub mod Kept
 pub mod RecordsLeft

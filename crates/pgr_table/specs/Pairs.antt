@@ -1,5 +1,5 @@
 -- Tables of combinations: their kind and their rows.
-use Rattle.std.specs.Prelude.{ℕ, List, [], ◌∷◌, ℤ, Result}
+use Rattle.std.specs.Prelude.{ℕ, List, [], ◌∷◌, Result}
 use Rattle.pgr_table.specs.declared.row.PairRow.{PairRow}
 use Rattle.pgr_table.specs.declared.column.Column.TheVariants as column
 use Rattle.pgr_table.specs.declared.kind.Grammar.TheVariants as grammar
@@ -7,7 +7,9 @@ use Rattle.pgr_table.specs.declared.kind.Check.TheVariants as check
 use Rattle.pgr_table.specs.declared.kind.Rule.{Rule}
 use Rattle.pgr_table.specs.declared.fault.TableFault.{TableFault}
 use Rattle.pgr_table.specs.Kinds.{required}
-use Rattle.pgr_table.specs.Rows.{value_of_column}
+use Rattle.pgr_table.specs.Values.{number_at}
+use Rattle.pgr_table.specs.declared.field_value.FieldValue.{FieldValue}
+use Rattle.pgr_table.specs.declared.field_value.FieldValue.TheVariants.{Number}
 use Rattle.pgr_table.specs.Judging.{judged, with_rows}
 
 -- the columns, in the order of judging: pairs of ids, which may stand twice
@@ -18,12 +20,12 @@ pair_kind =
     ∷ []
 
 -- the pair with these values
-abbrev pub pair_of : List ℤ → PairRow
-pair_of values = record { source = value_of_column values 0; target = value_of_column values 1 }
+abbrev pub pair_of : List FieldValue → PairRow
+pair_of values = record { source = number_at values 0; target = number_at values 1 }
 
 -- the values of a pair
-abbrev pub values_of_pair : PairRow → List ℤ
-values_of_pair row = row.source ∷ row.target ∷ []
+abbrev pub values_of_pair : PairRow → List FieldValue
+values_of_pair row = Number row.source ∷ Number row.target ∷ []
 
 -- the verdict on the bytes of a table of combinations
 abbrev pub judged_pairs : List ℕ → Result (List PairRow) TableFault

@@ -1,12 +1,8 @@
--- What rows of tables are made of, and their bounds.
-use Rattle.std.specs.Prelude.{ℕ, List, ℤ, pos, negsuc, slice_index_or}
+-- What rows of tables count, and their bounds.
+use Rattle.std.specs.Prelude.{ℕ, ℤ, pos, negsuc}
 pub use Rattle.pgr_outside.specs.Limits.{greatest}
 
--- the value of a row in the column with this place in the order of its kind
-abbrev pub value_of_column : List ℤ → ℕ → ℤ
-value_of_column values place = slice_index_or values place (pos 0)
-
--- what a value counts in the sum of a table: itself, and nothing where it is negative
+-- what a number counts in the sum of a table: itself, and nothing where it is negative
 abbrev pub counted : ℤ → ℕ
 counted (pos n) = n
 counted (negsuc n) = 0
@@ -14,3 +10,7 @@ counted (negsuc n) = 0
 -- the greatest number of rows
 abbrev pub most_rows : ℕ
 most_rows = 4194304
+
+-- the greatest number of elements of all lists of a table
+abbrev pub most_elements : ℕ
+most_elements = 1048576

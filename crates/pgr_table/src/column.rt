@@ -16,6 +16,28 @@ pub enum Column {
     Cost,
     /// The cost from target to source.
     ReverseCost,
+    /// The first coordinate of the source.
+    X1,
+    /// The second coordinate of the source.
+    Y1,
+    /// The first coordinate of the target.
+    X2,
+    /// The second coordinate of the target.
+    Y2,
+    /// The capacity from source to target.
+    Capacity,
+    /// The capacity from target to source.
+    ReverseCapacity,
+    /// The id of a point.
+    Pid,
+    /// The id of the edge that a point lies on.
+    EdgeId,
+    /// How far along its edge a point lies.
+    Fraction,
+    /// The side of its edge that a point lies on.
+    SideOf,
+    /// The edges of a restriction.
+    Path,
 }
 
 impl Column {
@@ -29,6 +51,17 @@ impl Column {
             Column::Target => "target",
             Column::Cost => "cost",
             Column::ReverseCost => "reverse_cost",
+            Column::X1 => "x1",
+            Column::Y1 => "y1",
+            Column::X2 => "x2",
+            Column::Y2 => "y2",
+            Column::Capacity => "capacity",
+            Column::ReverseCapacity => "reverse_capacity",
+            Column::Pid => "pid",
+            Column::EdgeId => "edge_id",
+            Column::Fraction => "fraction",
+            Column::SideOf => "side",
+            Column::Path => "path",
         }
     }
 }

@@ -1,14 +1,18 @@
-ghost use Rattle.std.specs.Prelude.{◌≡◌, ◌≢◌, ◌<◌, ◌↔◌, [], false, All, length, IsTrue, IsNone, IfSome, Some, option_map, slice_get};
+ghost use Rattle.std.specs.Prelude.{◌≡◌, ◌≢◌, ◌<◌, ◌≤◌, ◌↔◌, true, false, [], ◌∷◌, ◌++◌, All, length, IsTrue, IsNone, IfOk, IfSome, OnOk, OnErr, Some, option_map, slice_get};
+ghost use Rattle.std.specs.List.{list_any};
+ghost use Rattle.std.specs.Ordering.{int_eq};
 ghost use Rattle.pgr_table.specs.Judging.{IsVerdict};
-ghost use Rattle.pgr_table.specs.Edges.{edge_kind, judged_edges};
-ghost use Rattle.pgr_table.specs.Kept.{IsRow, Keeps};
+ghost use Rattle.pgr_table.specs.Edges.{edge_kind, placed_edge_kind, edge_of, edge_with, place_behind, judged_edges, sum_of_costs, HasIds, IsPlace, HasPlaces};
+ghost use Rattle.pgr_table.specs.Kept.{IsRow};
+ghost use Rattle.pgr_table.specs.Rows.{most_rows, greatest};
 
 use crate::column::Column;
 use crate::fault::TableRefused;
+use crate::field_value::{FieldValue, number_in};
 use crate::growing::Growing;
 use crate::kind::{Check, Grammar, Rule};
 use crate::reading::read_table;
-use crate::row::EdgeRow;
+use crate::row::{EdgeRow, Place};
 use crate::table::Table;
 use indexmap::IndexMap;
 use pgr_outside::NoMemory;
@@ -20,64 +24,113 @@ const EDGES: [Rule; 5] = [
     Rule {
         column: Column::Id,
         grammar: Grammar::Id,
-        absent: None,
+        required: true,
         check: Check::Distinct,
     },
     Rule {
         column: Column::Source,
         grammar: Grammar::Id,
-        absent: None,
+        required: true,
         check: Check::Free,
     },
     Rule {
         column: Column::Target,
         grammar: Grammar::Id,
-        absent: None,
+        required: true,
         check: Check::Free,
     },
     Rule {
         column: Column::Cost,
         grammar: Grammar::Whole,
-        absent: None,
+        required: true,
         check: Check::Summed,
     },
     Rule {
         column: Column::ReverseCost,
         grammar: Grammar::WholeOrEmpty,
-        absent: Some(-1),
+        required: false,
         check: Check::Summed,
     },
 ];
 
-/// What a table keeps of an edge under its id.
-#[derive(Clone, Copy, Debug)]
-pub(crate) struct Edge {
-    pub(crate) source: i64,
-    pub(crate) target: i64,
-    pub(crate) cost: i64,
-    pub(crate) reverse_cost: i64,
-}
+/// The columns of a table of edges with places, in the order of judging.
+const PLACED_EDGES: [Rule; 9] = [
+    Rule {
+        column: Column::Id,
+        grammar: Grammar::Id,
+        required: true,
+        check: Check::Distinct,
+    },
+    Rule {
+        column: Column::Source,
+        grammar: Grammar::Id,
+        required: true,
+        check: Check::Free,
+    },
+    Rule {
+        column: Column::Target,
+        grammar: Grammar::Id,
+        required: true,
+        check: Check::Free,
+    },
+    Rule {
+        column: Column::Cost,
+        grammar: Grammar::Whole,
+        required: true,
+        check: Check::Summed,
+    },
+    Rule {
+        column: Column::ReverseCost,
+        grammar: Grammar::WholeOrEmpty,
+        required: false,
+        check: Check::Summed,
+    },
+    Rule {
+        column: Column::X1,
+        grammar: Grammar::Coordinate,
+        required: true,
+        check: Check::Free,
+    },
+    Rule {
+        column: Column::Y1,
+        grammar: Grammar::Coordinate,
+        required: true,
+        check: Check::Free,
+    },
+    Rule {
+        column: Column::X2,
+        grammar: Grammar::Coordinate,
+        required: true,
+        check: Check::Free,
+    },
+    Rule {
+        column: Column::Y2,
+        grammar: Grammar::Coordinate,
+        required: true,
+        check: Check::Free,
+    },
+];
 
 /// The rows of an edge table that is accepted, in the order of the table, which contracts see as their list.
 ///
-/// No id stands twice, ids and vertices are from 0 to 2^63 - 1, there are at most 4,194,304 rows, and the costs that
-/// aren't negative, of both columns, have a sum of at most 2^63 - 1.
+/// No id stands twice, ids and vertices are from 0 to 2^63 - 1, coordinates are from -10^15 to 10^15, there are at most
+/// 4,194,304 rows, and the costs that aren't negative, of both columns, have a sum of at most 2^63 - 1.
 #[derive(Debug, Drop)]
 pub struct EdgeTable {
-    edges: IndexMap<i64, Edge>,
+    edges: IndexMap<i64, EdgeRow>,
 }
 
 impl Model for EdgeTable {
     ghost use Rattle.std.specs.Prelude.{List};
     ghost use Rattle.pgr_table.specs.declared.row.EdgeRow.{EdgeRow as Row};
     ghost use Rattle.pgr_table.specs.Edges.{AreAccepted};
-    ghost use Rattle.pgr_table.specs.Kept.{rows_in};
+    ghost use Rattle.pgr_table.specs.Kept.{rows_in, AreUnderIds};
 
     ghost Value = { List Row };
 
     ghost view = { λ table. rows_in table.edges.entries };
 
-    ghost invariant = { λ table. AreAccepted (rows_in table.edges.entries) };
+    ghost invariant = { λ table. AreUnderIds (λ row. row.id) table.edges.entries × AreAccepted (rows_in table.edges.entries) };
 }
 
 /// The edges that the bytes are, or why they are none.
@@ -90,13 +143,37 @@ impl Model for EdgeTable {
 /// empty it is -1. A byte order mark in front and blank lines are skipped, the last record needs no line feed, and a
 /// header alone is a table without rows.
 ///
-/// `Fault` comes exactly where the bytes have one, and is the first: see [`TableFault`]. No id stands twice, there are at
-/// most 4,194,304 rows, and the costs that aren't negative, of both columns, have a sum of at most 2^63 - 1. `Memory`
-/// may come at any bytes. Coordinates aren't read, so `places` is false. Work, not proved: a step for each byte, and two
-/// look-ups for each row.
+/// With `places` the header has to have the columns `x1`, `y1`, `x2` and `y2` too, which are judged behind the others:
+/// whole numbers from -10^15 to 10^15, the coordinates of the source and of the target, and each row has them. Without,
+/// these columns are ignored as others are, and no row has a place.
+///
+/// `Fault` comes exactly where the bytes have one, and is the first: see [`TableFault`](crate::TableFault). No id stands
+/// twice, there are at most 4,194,304 rows, and the costs that aren't negative, of both columns, have a sum of at most
+/// 2^63 - 1. `Memory` may come at any bytes. Work, not proved: a step for each byte, and two look-ups for each row.
 pub fn read_edges(alloc: Global, bytes: &[u8], places: bool) -> Result<EdgeTable, TableRefused>
-    requires { places ≡ false }
-    ensures { IsVerdict result (judged_edges bytes.now) }
+    ensures verdict { IsVerdict result (judged_edges places bytes.now) }
+    ensures places { IsTrue places → IfOk result HasPlaces }
+{
+    if places {
+        return read_placed_edges(alloc, bytes);
+    }
+    read_plain_edges(alloc, bytes)
+}
+
+/// The edges that the bytes are, with the columns of their places.
+fn read_placed_edges(alloc: Global, bytes: &[u8]) -> Result<EdgeTable, TableRefused>
+    ensures verdict { IsVerdict result (judged_edges true bytes.now) }
+    ensures places { IfOk result HasPlaces }
+{
+    match read_table::<PlacedEdges>(alloc, bytes) {
+        Ok(placed) => Ok(placed.table),
+        Err(refused) => Err(refused),
+    }
+}
+
+/// The edges that the bytes are, without places.
+fn read_plain_edges(alloc: Global, bytes: &[u8]) -> Result<EdgeTable, TableRefused>
+    ensures { IsVerdict result (judged_edges false bytes.now) }
 {
     read_table::<EdgeTable>(alloc, bytes)
 }
@@ -135,15 +212,7 @@ impl EdgeTable {
         requires { i < length self.now }
         ensures { slice_get self.now i ≡ Some result }
     {
-        let (id, edge) = self.edges.get_index(i).unwrap();
-        EdgeRow {
-            id: *id,
-            source: edge.source,
-            target: edge.target,
-            cost: edge.cost,
-            reverse_cost: edge.reverse_cost,
-            place: None,
-        }
+        *self.edges.get_index(i).unwrap().1
     }
 
     /// The place of the row with an id, or none where no row has it.
@@ -153,9 +222,31 @@ impl EdgeTable {
     {
         self.edges.get_index_of(&id)
     }
+
+    /// Whether a row has this id.
+    fn has_id(&self, id: i64) -> bool
+        ensures { result ≡ list_any (λ row. int_eq id row.id) self.now }
+    {
+        self.edges.contains_key(&id)
+    }
+
+    /// Puts a row behind the others. Out of memory, the table stays as it was.
+    fn push(&mut self, row: EdgeRow) -> Result<(), NoMemory>
+        requires ids { HasIds row }
+        requires place { IfSome row.place IsPlace }
+        requires new { list_any (λ one. int_eq row.id one.id) self.old ≡ false }
+        requires few { length self.old < most_rows }
+        requires sum { sum_of_costs (self.old ++ row ∷ []) ≤ greatest }
+        ensures ok { OnOk result (self.new ≡ self.old ++ row ∷ []) }
+        ensures err { OnErr result (self.new ≡ self.old) }
+    {
+        self.edges.insert(row.id, row)?;
+        Ok(())
+    }
 }
 
 impl Table for EdgeTable {
+    ghost use Rattle.std.specs.Prelude.{false};
     ghost use Rattle.pgr_table.specs.declared.row.EdgeRow.{EdgeRow as One};
     ghost use Rattle.pgr_table.specs.Edges.{judged_edges as verdict};
 
@@ -163,7 +254,7 @@ impl Table for EdgeTable {
 
     ghost rows = { λ table. table };
 
-    ghost judged = { verdict };
+    ghost judged = { verdict false };
 
     fn read(alloc: Global, bytes: &[u8]) -> Result<EdgeTable, TableRefused> {
         read_edges(alloc, bytes, false)
@@ -192,25 +283,105 @@ impl Growing for EdgeTable {
         self.edges.len()
     }
 
-    fn knows(&self, values: &[i64]) -> bool {
-        self.edges.contains_key(&values[0])
+    fn knows(&self, values: &[FieldValue]) -> bool {
+        self.has_id(number_in(values, 0))
     }
 
-    fn add(&mut self, values: &[i64]) -> Result<(), NoMemory> {
-        self.edges.insert(values[0], kept(values))?;
+    fn add(&mut self, values: &mut Vec<FieldValue>) -> Result<(), NoMemory> {
+        self.push(edge(values.as_slice()))
+    }
+}
+
+/// A table of edges that is read with their places.
+#[derive(Drop)]
+struct PlacedEdges {
+    table: EdgeTable,
+}
+
+impl Model for PlacedEdges {
+    ghost use Rattle.std.specs.Prelude.{List};
+    ghost use Rattle.pgr_table.specs.declared.row.EdgeRow.{EdgeRow as Row};
+    ghost use Rattle.pgr_table.specs.Edges.{HasPlaces};
+
+    ghost Value = { List Row };
+
+    ghost view = { λ placed. placed.table };
+
+    ghost invariant = { λ placed. HasPlaces placed.table };
+}
+
+impl Growing for PlacedEdges {
+    ghost use Rattle.std.specs.Prelude.{map};
+    ghost use Rattle.pgr_table.specs.Edges.{placed_edge_kind, values_of_edge};
+
+    ghost kind = { placed_edge_kind };
+
+    ghost rows = { map values_of_edge };
+
+    fn kind() -> &'static [Rule] {
+        &PLACED_EDGES
+    }
+
+    fn empty(alloc: Global) -> PlacedEdges {
+        PlacedEdges {
+            table: EdgeTable::empty(alloc),
+        }
+    }
+
+    fn count(&self) -> usize {
+        self.table.len()
+    }
+
+    fn knows(&self, values: &[FieldValue]) -> bool {
+        self.table.has_id(number_in(values, 0))
+    }
+
+    fn add(&mut self, values: &mut Vec<FieldValue>) -> Result<(), NoMemory> {
+        self.table.push(placed_edge(values.as_slice()))?;
         Ok(())
     }
 }
 
-/// What is kept of the edge with these values.
-fn kept(values: &[i64]) -> Edge
+/// The edge with these values, without a place.
+fn edge(values: &[FieldValue]) -> EdgeRow
     requires { IsRow edge_kind values.now }
-    ensures { Keeps values.now result }
+    ensures { result ≡ edge_of values.now }
 {
-    Edge {
-        source: values[1],
-        target: values[2],
-        cost: values[3],
-        reverse_cost: values[4],
+    edge_at(values, None)
+}
+
+/// The edge with these values, and the place that the last four are.
+fn placed_edge(values: &[FieldValue]) -> EdgeRow
+    requires { IsRow placed_edge_kind values.now }
+    ensures { result ≡ edge_of values.now }
+{
+    edge_at(values, Some(place(values)))
+}
+
+/// The edge that the first five values make, with this place.
+fn edge_at(values: &[FieldValue], place: Option<Place>) -> EdgeRow
+    requires { 5 ≤ length values.now }
+    ensures { result ≡ edge_with values.now place }
+{
+    EdgeRow {
+        id: number_in(values, 0),
+        source: number_in(values, 1),
+        target: number_in(values, 2),
+        cost: number_in(values, 3),
+        reverse_cost: number_in(values, 4),
+        place,
+    }
+}
+
+/// The place that the values behind the first five make.
+fn place(values: &[FieldValue]) -> Place
+    requires { 9 ≤ length values.now }
+    ensures { result ≡ place_behind values.now }
+{
+    Place {
+        x1: number_in(values, 5),
+        y1: number_in(values, 6),
+        x2: number_in(values, 7),
+        y2: number_in(values, 8),
     }
 }

@@ -11,8 +11,8 @@ use thiserror::Error;
 /// Why a table isn't accepted: the first fault, in this order.
 ///
 /// `NoHeader` first; then, column by column in the order of the kind, `MissingColumn` and `RepeatedColumn`; then, record
-/// by record, `TooManyRows`, `UnevenRecord`, `BadField` of the first such column, `DuplicateId` and `CostSum`. A fault at
-/// a record is decided by the records up to it. The header is record 1.
+/// by record, `TooManyRows` of rows, `UnevenRecord`, `BadField` of the first such column, `DuplicateId`, `TooManyRows` of the
+/// elements of lists, and `CostSum`. A fault at a record is decided by the records up to it. The header is record 1.
 #[derive(Clone, Copy, Debug, PartialEq, Eq, Drop, Error)]
 pub enum TableFault {
     /// There is no record.
@@ -33,10 +33,10 @@ pub enum TableFault {
     /// The id of the record with this number stood before.
     #[error("record {0}: id repeated")]
     DuplicateId(u64),
-    /// The record with this number is number 4,194,306.
+    /// The record with this number is number 4,194,306, or with it the lists have more than 1,048,576 elements.
     #[error("record {0}: too many rows")]
     TooManyRows(u64),
-    /// With the record with this number the sum of the costs passes 2^63 - 1.
+    /// With the record with this number the sum of the costs, or of the capacities, passes 2^63 - 1.
     #[error("record {0}: sum too large")]
     CostSum(u64),
 }

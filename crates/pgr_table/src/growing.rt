@@ -1,9 +1,11 @@
-ghost use Rattle.std.specs.Prelude.{◌≡◌, ◌+◌, ◌<◌, ◌≤◌, ℤ, List, [], ◌∷◌, ◌++◌, false, length, OnOk, OnErr};
-ghost use Rattle.pgr_table.specs.Rows.{most_rows, greatest};
-ghost use Rattle.pgr_table.specs.Judging.{is_repeat, sum_of};
+ghost use Rattle.std.specs.Prelude.{◌≡◌, ◌+◌, ◌<◌, ◌≤◌, List, [], ◌∷◌, ◌++◌, false, length, OnOk, OnErr};
+ghost use Rattle.pgr_table.specs.Rows.{most_rows, most_elements, greatest};
+ghost use Rattle.pgr_table.specs.Judging.{is_repeat, elements_of, sum_of};
+ghost use Rattle.pgr_table.specs.declared.field_value.FieldValue.{FieldValue as Value};
 ghost use Rattle.pgr_table.specs.Kept.{IsRow};
 ghost use Rattle.pgr_table.specs.declared.kind.Rule.{Rule as OneRule};
 
+use crate::field_value::FieldValue;
 use crate::kind::Rule;
 use pgr_outside::NoMemory;
 use std::alloc::Global;
@@ -14,7 +16,7 @@ pub(crate) trait Growing: Drop {
     ghost kind: { List OneRule };
 
     /// The rows so far, each as its values in the order of the columns.
-    ghost rows: { Self → List (List ℤ) };
+    ghost rows: { Self → List (List Value) };
 
     /// The columns of the kind, in the order of judging.
     fn kind() -> &'static [Rule]
@@ -29,16 +31,17 @@ pub(crate) trait Growing: Drop {
         ensures { result ≡ length (rows self.now) };
 
     /// Whether the id of a row stands before.
-    fn knows(&self, values: &[i64]) -> bool
+    fn knows(&self, values: &[FieldValue]) -> bool
         requires { IsRow kind values.now }
         ensures { result ≡ is_repeat kind (rows self.now) values.now };
 
-    /// Puts a row behind the others. Out of memory, the table stays as it was.
-    fn add(&mut self, values: &[i64]) -> Result<(), NoMemory>
-        requires row { IsRow kind values.now }
+    /// Puts a row behind the others; its values may be taken away. Out of memory, the table stays as it was.
+    fn add(&mut self, values: &mut Vec<FieldValue>) -> Result<(), NoMemory>
+        requires row { IsRow kind values.old.items }
         requires few { length (rows self.old) < most_rows }
-        requires new { is_repeat kind (rows self.old) values.now ≡ false }
-        requires sum { sum_of kind (rows self.old ++ values.now ∷ []) ≤ greatest }
-        ensures ok { OnOk result (rows self.new ≡ rows self.old ++ values.now ∷ []) }
+        requires new { is_repeat kind (rows self.old) values.old.items ≡ false }
+        requires elements { elements_of (rows self.old ++ values.old.items ∷ []) ≤ most_elements }
+        requires sum { sum_of kind (rows self.old ++ values.old.items ∷ []) ≤ greatest }
+        ensures ok { OnOk result (rows self.new ≡ rows self.old ++ values.old.items ∷ []) }
         ensures err { OnErr result (rows self.new ≡ rows self.old) };
 }

@@ -44,7 +44,7 @@ fn find_column(header: &ByteRecord, rule: &Rule) -> Result<Option<usize>, TableF
             found = Some(place);
         }
     }
-    if found.is_none() && rule.absent.is_none() {
+    if found.is_none() && rule.required {
         return Err(TableFault::MissingColumn(rule.column));
     }
     Ok(found)

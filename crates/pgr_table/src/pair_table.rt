@@ -6,6 +6,7 @@ ghost use Rattle.pgr_table.specs.Kept.{IsRow};
 
 use crate::column::Column;
 use crate::fault::TableRefused;
+use crate::field_value::{FieldValue, number_in};
 use crate::growing::Growing;
 use crate::kind::{Check, Grammar, Rule};
 use crate::reading::read_table;
@@ -20,13 +21,13 @@ const PAIRS: [Rule; 2] = [
     Rule {
         column: Column::Source,
         grammar: Grammar::Integer,
-        absent: None,
+        required: true,
         check: Check::Free,
     },
     Rule {
         column: Column::Target,
         grammar: Grammar::Integer,
-        absent: None,
+        required: true,
         check: Check::Free,
     },
 ];
@@ -135,23 +136,23 @@ impl Growing for PairTable {
         self.rows.len()
     }
 
-    fn knows(&self, _values: &[i64]) -> bool {
+    fn knows(&self, _values: &[FieldValue]) -> bool {
         false
     }
 
-    fn add(&mut self, values: &[i64]) -> Result<(), NoMemory> {
-        self.rows.push(pair(values))?;
+    fn add(&mut self, values: &mut Vec<FieldValue>) -> Result<(), NoMemory> {
+        self.rows.push(pair(values.as_slice()))?;
         Ok(())
     }
 }
 
 /// The pair with these values.
-fn pair(values: &[i64]) -> PairRow
+fn pair(values: &[FieldValue]) -> PairRow
     requires { IsRow pair_kind values.now }
     ensures { result ≡ pair_of values.now }
 {
     PairRow {
-        source: values[0],
-        target: values[1],
+        source: number_in(values, 0),
+        target: number_in(values, 1),
     }
 }

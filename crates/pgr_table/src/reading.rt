@@ -5,6 +5,7 @@ use crate::growing::Growing;
 use crate::header::find_columns;
 use crate::record::add_record;
 use crate::records::Records;
+use crate::totals::Totals;
 use csv::ByteRecord;
 use std::alloc::Global;
 
@@ -21,11 +22,12 @@ pub(crate) fn read_table<T: Growing>(alloc: Global, bytes: &[u8]) -> Result<T, T
     let width = fields.len();
     let mut values = Vec::new(alloc);
     let mut table = T::empty(alloc);
-    let mut sum = 0;
+    let mut totals = Totals::zero();
     while records.read(&mut fields)? {
-        sum = add_record(
+        totals = add_record(
+            alloc,
             &mut table,
-            sum,
+            totals,
             columns.as_slice(),
             width,
             &fields,

@@ -1,8 +1,9 @@
 use crate::{
-    Column, EdgeRow, PairRow, PairTable, Table, TableFault, TableRefused, read_combinations,
-    read_edges,
+    CapacityRow, CapacityTable, Column, EdgeRow, PairRow, PairTable, Place, PointRow, PointTable,
+    RestrictionTable, Table, TableFault, TableRefused, read_capacities, read_combinations,
+    read_edges, read_points, read_restrictions,
 };
-use pgr_outside::{MemorySink, write_parts};
+use pgr_outside::{MemorySink, Side, write_parts};
 use std::test::Fail;
 
 // A table, and its number of rows or its fault.
@@ -145,6 +146,184 @@ fn a_pair_may_stand_twice(rt: HostRuntime) -> Result<(), Fail> {
         Some(TableRefused::Fault(TableFault::BadField(3, Column::Target)))
     );
     assert_eq!(rt; Column::ReverseCost.name(), "reverse_cost");
+    Ok(())
+}
+
+#[test]
+fn places_are_read_where_they_are_wanted(rt: HostRuntime) -> Result<(), Fail> {
+    let bytes = b"y2,id,source,target,cost,x1,y1,x2\n4.0,7,1,2,3,-1,2,1000000000000000\n";
+    let place = Place {
+        x1: -1,
+        y1: 2,
+        x2: 1_000_000_000_000_000,
+        y2: 4,
+    };
+    let row = EdgeRow {
+        place: Some(place),
+        ..edge(7, 1, 2, 3, -1)
+    };
+    let table = read_edges(rt.alloc(), bytes, true)?;
+    assert_eq!(rt; table.len(), 1);
+    assert_eq!(rt; table.row(0), row);
+    assert_eq!(rt; table.find(7), Some(0));
+    assert_eq!(rt;
+        read_edges(rt.alloc(), bytes, false)?.row(0),
+        edge(7, 1, 2, 3, -1)
+    );
+    Ok(())
+}
+
+#[test]
+fn coordinates_are_judged_behind_the_costs(rt: HostRuntime) {
+    let cases: [Case<'_>; 5] = [
+        (
+            b"id,source,target,cost,x1,y1,x2\n",
+            Err(TableFault::MissingColumn(Column::Y2)),
+        ),
+        (
+            b"id,source,target,cost,x1,y1,x1,y1,reverse_cost,reverse_cost,x2,y2\n",
+            Err(TableFault::RepeatedColumn(Column::ReverseCost)),
+        ),
+        (
+            b"x1,y1,x2,y2,id,source,target,cost\nx,,,,1,1,2,x\n",
+            Err(TableFault::BadField(2, Column::Cost)),
+        ),
+        (
+            b"x1,y1,x2,y2,id,source,target,cost\n1,1000000000000001,1,1,1,1,2,1\n",
+            Err(TableFault::BadField(2, Column::Y1)),
+        ),
+        (
+            b"x1,y1,x2,y2,id,source,target,cost\n1,1,,1,1,1,2,1\n",
+            Err(TableFault::BadField(2, Column::X2)),
+        ),
+    ];
+    for (bytes, answer) in cases {
+        let rows = read_edges(rt.alloc(), bytes, true).map(|table| table.len());
+        assert_eq!(rt; rows, answer.map_err(TableRefused::Fault));
+    }
+}
+
+#[test]
+fn capacities_are_summed_over_both_columns(rt: HostRuntime) -> Result<(), Fail> {
+    let table = read_capacities(
+        rt.alloc(),
+        b"capacity,id,source,target,cost\n3.0,7,1,2,x\n-4,5,2,2,x\n",
+    )?;
+    assert_eq!(rt; table.len(), 2);
+    assert!(rt; !table.is_empty());
+    let row = CapacityRow {
+        id: 5,
+        source: 2,
+        target: 2,
+        capacity: -4,
+        reverse_capacity: -1,
+    };
+    assert_eq!(rt; table.row(1), row);
+    assert_eq!(rt; table.row(0).capacity, 3);
+    for (bytes, fault) in [
+        (
+            b"id,source,target,cost\n".as_slice(),
+            TableFault::MissingColumn(Column::Capacity),
+        ),
+        (
+            b"id,source,target,capacity,reverse_capacity\n1,1,1,9223372036854775807,1\n",
+            TableFault::CostSum(2),
+        ),
+        (
+            b"id,source,target,capacity\n1,1,2,1\n1,1,2,1\n",
+            TableFault::DuplicateId(3),
+        ),
+        (
+            b"id,source,target,capacity,reverse_capacity\n1,1,2,1,x\n",
+            TableFault::BadField(2, Column::ReverseCapacity),
+        ),
+    ] {
+        let refused = CapacityTable::read(rt.alloc(), bytes).err();
+        assert_eq!(rt; refused, Some(TableRefused::Fault(fault)));
+    }
+    Ok(())
+}
+
+#[test]
+fn a_point_has_a_fraction_and_a_side(rt: HostRuntime) -> Result<(), Fail> {
+    let table = read_points(
+        rt.alloc(),
+        b"side,pid,edge_id,fraction\nr,1,0,0.50\n,2,7,2/4\n",
+    )?;
+    assert_eq!(rt; table.len(), 2);
+    assert!(rt; !table.is_empty());
+    let first = PointRow {
+        pid: 1,
+        edge_id: 0,
+        over: 50,
+        under: 100,
+        side: Side::R,
+    };
+    let second = PointRow {
+        pid: 2,
+        edge_id: 7,
+        over: 2,
+        under: 4,
+        side: Side::B,
+    };
+    assert_eq!(rt; table.row(0), first);
+    assert_eq!(rt; table.row(1), second);
+    let sideless = read_points(rt.alloc(), b"pid,edge_id,fraction\n1,1,0.5\n")?;
+    assert_eq!(rt; sideless.row(0).side, Side::B);
+    for (bytes, fault) in [
+        (
+            b"pid,edge_id,fraction\n0,1,0.5\n".as_slice(),
+            TableFault::BadField(2, Column::Pid),
+        ),
+        (
+            b"pid,edge_id,fraction\n1,-1,0.5\n",
+            TableFault::BadField(2, Column::EdgeId),
+        ),
+        (
+            b"pid,edge_id,fraction\n1,1,1.0\n",
+            TableFault::BadField(2, Column::Fraction),
+        ),
+        (
+            b"pid,edge_id,fraction,side\n1,1,0.5,B\n",
+            TableFault::BadField(2, Column::SideOf),
+        ),
+        (
+            b"pid,edge_id,fraction\n1,1,0.5\n1,2,0.5\n",
+            TableFault::DuplicateId(3),
+        ),
+    ] {
+        let refused = PointTable::read(rt.alloc(), bytes).err();
+        assert_eq!(rt; refused, Some(TableRefused::Fault(fault)));
+    }
+    Ok(())
+}
+
+#[test]
+fn restrictions_keep_the_empty_list(rt: HostRuntime) -> Result<(), Fail> {
+    let table = read_restrictions(
+        rt.alloc(),
+        b"cost,path,cost\nx,\"{1,-2,1}\",\nx,{},\n,,y\n1,{7},1\n",
+    )?;
+    assert_eq!(rt; table.len(), 4);
+    assert!(rt; !table.is_empty());
+    assert_eq!(rt; table.row(0), [1, -2, 1].as_slice());
+    assert!(rt; table.row(1).is_empty());
+    assert!(rt; table.row(2).is_empty());
+    assert_eq!(rt; table.row(3), [7].as_slice());
+    for (bytes, fault) in [
+        (
+            b"cost\n".as_slice(),
+            TableFault::MissingColumn(Column::Path),
+        ),
+        (b"path,path\n", TableFault::RepeatedColumn(Column::Path)),
+        (
+            b"path\n{1}\n\"{1, 2}\"\n",
+            TableFault::BadField(3, Column::Path),
+        ),
+    ] {
+        let refused = RestrictionTable::read(rt.alloc(), bytes).err();
+        assert_eq!(rt; refused, Some(TableRefused::Fault(fault)));
+    }
     Ok(())
 }
 

@@ -3,7 +3,7 @@ use Rattle.csv.specs.Records.{fields_of}
 use Rattle.pgr_table.specs.Judging.{places_from, fault_at}
 use Rattle.pgr_table.proofs.HeaderFacts.{found-first, found-other, found-twice, found-missing, found-good, found-place, is_none-result}
 use Rattle.pgr_table.proofs.header.find_column.Goals as goal
-use Rattle.pgr_table.proofs.header.find_column.Goals.{then-has_field+else-is_some, else-has_field, else-is_none-via-then-is_none+else-is_none-2, else-is_none-via-else-is_none}
+use Rattle.pgr_table.proofs.header.find_column.Goals.{then-has_field+else-is_some, else-has_field, else-is_none-via-then-is_none+else-rule, else-is_none-via-else-is_none}
 
 pub loop-place-init : goal.loop-place-init
 loop-place-init c = refl
@@ -24,13 +24,12 @@ loop-place-preserved c =
           (omega arith) (sym c.has_field.ensures ∙ w.if-has_field.false) c.loop-place.invariant)
     ]
 
-pub returns-then-is_none-2-clause-fault : goal.returns-then-is_none-2-clause-fault
-returns-then-is_none-2-clause-fault c =
+pub returns-then-rule-clause-fault : goal.returns-then-rule-clause-fault
+returns-then-rule-clause-fault c =
     let named = c.as_bytes-name.ensures.value ∙ c.name.ensures in
     sym (ap (λ (n : List ℕ). fault_at c.args.rule.now (places_from 0 n (fields_of c.args.header.now))) (sym named)
     ∙ found-missing c.args.rule.now c.as_bytes-name.result.now (fields_of c.args.header.now) c.loop-place.found c.loop-place.place (omega arith)
-    c.loop-place.invariant (is_none-result c.loop-place.found c.is_none.result c.is_none.ensures ∙ c.if-is_none.true)
-    (is_none-result c.args.rule.now.absent c.is_none-then-is_none.result c.is_none-then-is_none.ensures ∙ c.if-is_none-2.true))
+    c.loop-place.invariant (is_none-result c.loop-place.found c.is_none.result c.is_none.ensures ∙ c.if-is_none.true) c.if-rule.true)
 
 pub returns-clause-fault : goal.returns-clause-fault
 returns-clause-fault c =
@@ -38,8 +37,7 @@ returns-clause-fault c =
     sym (ap (λ (n : List ℕ). fault_at c.args.rule.now (places_from 0 n (fields_of c.args.header.now))) (sym named)
     ∙ found-good c.args.rule.now c.as_bytes-name.result.now (fields_of c.args.header.now) c.loop-place.found c.loop-place.place (omega arith) c.loop-place.invariant
     (elim c.else-is_none.branch [
-      | else-is_none-via-then-is_none+else-is_none-2 w ↦ λ none. is_none-result c.args.rule.now.absent w.is_none-then-is_none.result
-          w.is_none-then-is_none.ensures ∙ w.if-is_none-2.false
+      | else-is_none-via-then-is_none+else-rule w ↦ λ none. w.if-rule.false
       | else-is_none-via-else-is_none w ↦ λ none. cc (sym none ∙ (is_none-result c.loop-place.found c.is_none.result c.is_none.ensures ∙ w.if-is_none.false))
     ]))
 

@@ -16,6 +16,10 @@ loop-table-init g c =
           (records default_config (strip_bom c.args.bytes.now)) c.read.new.self header (sym c.new-records.ensures ∙ first) none found);
       kind = rw found (rules_of-found header g.T.Growing.kind);
       few = rw c.empty-table.ensures (omega arith);
-      sum = rw c.empty-table.ensures refl;
-      small = omega arith;
+      totals = record {
+        elements = rw c.empty-table.ensures c.zero-totals.ensures.elements;
+        few = omega (arith, c.zero-totals.ensures.elements);
+        sum = rw c.empty-table.ensures c.zero-totals.ensures.sum;
+        small = omega (arith, c.zero-totals.ensures.sum);
+      };
     }

@@ -7,10 +7,10 @@ knows-requires g c = rw c.as_slice.ensures.value (read-row c.args.columns.now (f
     c.read_values.new.values.items g.T.Growing.kind c.in_ok-column.ensures.bad c.in_ok-column.ensures.row c.in_default.not-Some c.requires.kind)
 
 pub sum_with-requires-clause-whole : goal.sum_with-requires-clause-whole
-sum_with-requires-clause-whole g c = rw c.as_slice-2.ensures.value (row-length c.args.columns.now c.read_values.new.values.items g.T.Growing.kind
-    (read-row c.args.columns.now (fields_of c.args.fields.now) c.in_ok-column.field-0 c.read_values.new.values.items g.T.Growing.kind
-    c.in_ok-column.ensures.bad c.in_ok-column.ensures.row c.in_default.not-Some c.requires.kind) c.requires.kind)
+sum_with-requires-clause-whole g c = rw c.as_slice-3.ensures.value (row-length c.args.columns.now c.read_values.new.values.items g.T.Growing.kind
+    (read-row c.args.columns.now (fields_of c.args.fields.now) c.in_ok-column.field-0
+    c.read_values.new.values.items g.T.Growing.kind c.in_ok-column.ensures.bad c.in_ok-column.ensures.row c.in_default.not-Some c.requires.kind) c.requires.kind)
 
 pub add-requires-clause-row : goal.add-requires-clause-row
-add-requires-clause-row g c = rw c.as_slice-3.ensures.value (read-row c.args.columns.now (fields_of c.args.fields.now) c.in_ok-column.field-0
-    c.read_values.new.values.items g.T.Growing.kind c.in_ok-column.ensures.bad c.in_ok-column.ensures.row c.in_default.not-Some c.requires.kind)
+add-requires-clause-row g c = read-row c.args.columns.now (fields_of c.args.fields.now) c.in_ok-column.field-0
+    c.read_values.new.values.items g.T.Growing.kind c.in_ok-column.ensures.bad c.in_ok-column.ensures.row c.in_default.not-Some c.requires.kind

@@ -1,35 +1,27 @@
-use Rattle.std.proofs.Common.{ap, List, ◌∷◌, [], ◌++◌, map}
+use Rattle.std.proofs.Common.{sym, ap, ◌∙◌, List, ◌++◌, ◌∷◌, [], map}
 use Rattle.std.proofs.lemmas.List.{map-append, length-map}
 use Rattle.pgr_table.specs.declared.row.EdgeRow.{EdgeRow}
-use Rattle.pgr_table.specs.Edges.{edge_of, values_of_edge}
-use Rattle.pgr_table.specs.Kept.{rows_in}
-use Rattle.pgr_table.proofs.EdgeFacts.{insert_entry-edge, rows_in-push, AreAccepted-push, makes_edge}
+use Rattle.pgr_table.specs.Edges.{edge_kind, edge_of, values_of_edge}
+use Rattle.pgr_table.proofs.Keyed.{is_repeat-rows, values-push-ok}
+use Rattle.pgr_table.proofs.EdgeFacts.{makes_edge, edge_values, sum_of_costs-push, sum_of_row-edge}
 use Rattle.pgr_table.proofs.edge_table.EdgeTableGrowing.add.Goals as goal
 
-pub invariant_of-self-2 : goal.invariant_of-self-2
-invariant_of-self-2 c =
-    let entries = c.self.inside.edges.entries in
-    let new = rw (← c.self.view_is) at c.requires.new in
-    let sum = rw (← c.self.view_is) at c.requires.sum in
-    let few = rw (← c.self.view_is, length-map (rows_in entries) values_of_edge) at c.requires.few in
-    rw (
-      c.in_ok-insert.ensures.entries,
-      insert_entry-edge c.self.inside.edges c.args.values.now c.kept.result c.requires.row new,
-      rows_in-push entries
-          c.args.values.now c.kept.result c.kept.ensures,
-    )
-    (AreAccepted-push (rows_in entries) c.args.values.now c.self.invariant c.requires.row few new sum)
+pub push-requires-clause-ids : goal.push-requires-clause-ids
+push-requires-clause-ids c = rw (c.edge.ensures, c.as_slice.ensures.value) (makes_edge c.args.values.now.items c.requires.row).ids
+
+pub push-requires-clause-place : goal.push-requires-clause-place
+push-requires-clause-place c = rw (c.edge.ensures, c.as_slice.ensures.value) (makes_edge c.args.values.now.items c.requires.row).place
+
+pub push-requires-clause-sum : goal.push-requires-clause-sum
+push-requires-clause-sum c = rw (c.edge.ensures, c.as_slice.ensures.value, ← sum_of_costs-push edge_kind sum_of_row-edge c.args.self.now c.args.values.now.items (makes_edge c.args.values.now.items c.requires.row).values_are) c.requires.sum
+
+pub push-requires-clause-new : goal.push-requires-clause-new
+push-requires-clause-new c = rw (c.edge.ensures, c.as_slice.ensures.value) (sym (is_repeat-rows edge_kind values_of_edge (λ (row : EdgeRow). row.id) edge_values c.args.self.now
+    c.args.values.now.items (edge_of c.args.values.now.items).id (makes_edge c.args.values.now.items c.requires.row).id) ∙ c.requires.new)
+
+pub push-requires-clause-few : goal.push-requires-clause-few
+push-requires-clause-few c = rw (length-map c.args.self.now values_of_edge) at c.requires.few
 
 pub returns-clause-ok : goal.returns-clause-ok
-returns-clause-ok c =
-    let entries = c.self.inside.edges.entries in
-    let new = rw (← c.self.view_is) at c.requires.new in
-    let makes = makes_edge c.args.values.now c.requires.row in
-    rw (
-      c.in_ok-insert.ensures.entries,
-      insert_entry-edge c.self.inside.edges c.args.values.now c.kept.result c.requires.row new,
-      rows_in-push entries c.args.values.now c.kept.result c.kept.ensures,
-      map-append values_of_edge (rows_in entries) (edge_of c.args.values.now ∷ []),
-      makes.values_are,
-    )
-    (ap (λ (rows : List EdgeRow). map values_of_edge rows ++ c.args.values.now ∷ []) c.self.view_is)
+returns-clause-ok c = values-push-ok values_of_edge c.push.result c.args.self.now c.push.new.self c.edge.result c.args.values.now.items c.push.ensures.ok
+    (ap values_of_edge (c.edge.ensures ∙ ap edge_of c.as_slice.ensures.value) ∙ (makes_edge c.args.values.now.items c.requires.row).values_are)
