@@ -4,7 +4,7 @@ use Rattle.pgr_answer.proofs.tables.Tables.read.Goals as goal
 
 pub returns-in_ok-self-in-Edges : goal.returns-in_ok-self-in-Edges
 returns-in_ok-self-in-Edges c =
-    (λ tables. record tables { edges = c.in_ok-self-in-Edges.field-0 }, rw (c.in-Edges.is, c.in_ok-self-in-Edges.ensures) refl, refl)
+    (λ tables. record tables { edges = c.in_ok-self-in-Edges.field-0 }, rw (c.in-Edges.is, c.in_ok-self-in-Edges.ensures.verdict) refl, refl)
 
 pub returns-in_ok-self-in-Combinations : goal.returns-in_ok-self-in-Combinations
 returns-in_ok-self-in-Combinations c =
