@@ -32,7 +32,7 @@ module _ (a x b y c z : ℕ) (x_some : 0 < x) (y_some : 0 < y) (z_some : 0 < z) 
       let first : nat_cmp (z * (a * y)) (z * (b * x)) ≡ Less = scaled z (a * y) (b * x) z_some ∙ p in
       let second : nat_cmp (x * (b * z)) (x * (c * y)) ≡ Less = scaled x (b * z) (c * y) x_some ∙ q in
       let middle : nat_cmp (z * (b * x)) (x * (c * y)) ≡ Less = ap (λ n. nat_cmp n (x * (c * y))) (swapped z b x) ∙ second in
-      let both : nat_cmp (z * (a * y)) (x * (c * y)) ≡ Less = nat_cmp_total.trans _ _ _ first middle in
+      let both : nat_cmp (z * (a * y)) (x * (c * y)) ≡ Less = nat_cmp_total.trans (z * (a * y)) (z * (b * x)) (x * (c * y)) first middle in
       let back : nat_cmp (y * (a * z)) (y * (c * x)) ≡ Less =
       ap (λ n. nat_cmp n (y * (c * x))) (swapped y a z) ∙ (ap (λ n. nat_cmp (z * (a * y)) n) (swapped y c x) ∙ both) in
       sym (scaled y (a * z) (c * x) y_some) ∙ back
@@ -49,7 +49,7 @@ one_at_least n = omega arith
 
 value_total : IsTotalOrder value_cmp
 value_total = record {
-  antisymm = λ p q. nat_cmp_total.antisymm _ _;
+  antisymm = λ p q. nat_cmp_total.antisymm (p.over * max q.under 1) (q.over * max p.under 1);
   trans = λ p q r. less_chain p.over (max p.under 1) q.over (max q.under 1) r.over (max r.under 1) (one_at_least p.under) (one_at_least q.under) (one_at_least r.under);
   congr = λ p q r. same_rank p.over (max p.under 1) q.over (max q.under 1) r.over (max r.under 1) (one_at_least p.under) (one_at_least q.under) (one_at_least r.under);
 }

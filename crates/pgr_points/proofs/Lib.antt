@@ -1,3 +1,8 @@
+pub mod Lists
+pub mod SameLists
+pub mod Runs
 pub mod Gathering
 pub mod FractionLemmas
-pub mod SameLists
+pub mod PlaceLemmas
+pub mod PartLemmas
+pub mod SeenLemmas

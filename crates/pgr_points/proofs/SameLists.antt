@@ -3,16 +3,13 @@ use Rattle.std.proofs.Common.{◌≡◌, ℕ, zero, suc, ◌+◌, ◌<◌, ◌�
 use Rattle.std.specs.Prelude.{Some, slice_get}
 use Rattle.std.specs.List.{Contains}
 use Rattle.pgr_outside.specs.Lists.{IsStrictlyRising}
-use Rattle.pgr_walks.proofs.Repeats.{Among, get-from_Among}
+use Rattle.std.proofs.lemmas.Option.{slice_get-get_or}
+use Rattle.std.proofs.lemmas.List.{get_or_default}
+use Rattle.pgr_walks.proofs.Repeats.{Among, Among-from_get}
 
 -- membership by places, and by cases on the list
 pub Among-from_Contains : {X : Type 0} (x : X) (xs : List X) → Contains xs x → Among x xs
-Among-from_Contains x [] h = absurd (omega (arith, h.1))
-Among-from_Contains {X} x (y ∷ ys) h = at h.0 h.1 h.2
-  where
-    at : (k : ℕ) → k < length (y ∷ ys) → get_or (y ∷ ys) k x ≡ x → Among x (y ∷ ys)
-    at zero inside e = inl e
-    at (suc k) inside e = inr (Among-from_Contains x ys (k, omega arith, e))
+Among-from_Contains x xs h = Among-from_get x xs h.0 (slice_get-get_or xs h.0 x h.1 ∙ ap Some h.2)
 
 pub Contains-from_Among : {X : Type 0} (x : X) (xs : List X) → Among x xs → Contains xs x
 Contains-from_Among x [] h = absurd h
@@ -37,10 +34,7 @@ module _ {X : Type 0} (cmp : X → X → Ordering) where
   unfolding Rises
   rising-from_Rises [] rises i j d before inside = absurd (omega arith)
   rising-from_Rises (x ∷ xs) rises zero zero d before inside = absurd (omega arith)
-  rising-from_Rises (x ∷ xs) rises zero (suc j) d before inside = rises.0 (get_or xs j d) (Among-from_Contains (get_or xs j d) xs (j, omega arith, default j))
-    where
-      default : (j : ℕ) → get_or xs j (get_or xs j d) ≡ get_or xs j d
-      default j = ?
+  rising-from_Rises (x ∷ xs) rises zero (suc j) d before inside = rises.0 (get_or xs j d) (Among-from_Contains (get_or xs j d) xs (j, omega arith, get_or_default xs j (get_or xs j d) d (omega arith)))
   rising-from_Rises (x ∷ xs) rises (suc i) zero d before inside = absurd (omega arith)
   rising-from_Rises (x ∷ xs) rises (suc i) (suc j) d before inside = rising-from_Rises xs rises.1 i j d (omega arith) (omega arith)
 

@@ -1,8 +1,9 @@
-ghost use Rattle.std.specs.Prelude.{◌≡◌, ◌*◌, IfOk};
+ghost use Rattle.std.specs.Prelude.{◌≡◌, ◌*◌, All, AllPairs, IfOk};
 ghost use Rattle.std.specs.List.Sorted.{IsPermutation};
 ghost use Rattle.pgr_outside.specs.Lists.{IsStrictlyRising};
 ghost use Rattle.pgr_points.specs.Places.{place_cmp, value_cmp};
-ghost use Rattle.pgr_points.specs.Senses.{points_of};
+ghost use Rattle.pgr_table.specs.Points.{IsPoint};
+ghost use Rattle.pgr_points.specs.Senses.{points_of, AreInOrder};
 
 use pgr_outside::NoMemory;
 use pgr_table::{PointRow, PointTable};
@@ -16,6 +17,8 @@ pub(crate) fn points_by_place(alloc: Global, points: &PointTable) -> Result<Vec<
     ensures same { IfOk result (λ rows. IsPermutation points.now rows.items) }
     ensures rising { IfOk result (λ rows. IsStrictlyRising place_cmp rows.items) }
 {
+    // From this call it is known that no id of a point stands twice.
+    let _count = points.len();
     let mut rows = rows_of(alloc, points)?;
     rows.sort_unstable_by(|a, b| compare_places(a, b));
     Ok(rows)
@@ -59,12 +62,17 @@ pub(crate) fn product(a: u64, b: u64) -> u128
     u128::from(a) * u128::from(b)
 }
 
-/// Of points that stand by edge, those on the edge.
-pub(crate) fn points_of(points: &[PointRow], edge: i64) -> &[PointRow]
-    requires { IsStrictlyRising place_cmp points.now }
-    ensures { result.now ≡ points_of edge points.now }
+/// Of points that stand by their places, those on the edge.
+pub(crate) fn points_of(placed: &[PointRow], edge: i64) -> &[PointRow]
+    requires rising { IsStrictlyRising place_cmp placed.now }
+    requires points { All IsPoint placed.now }
+    ensures same { result.now ≡ points_of edge placed.now }
+
+    // They are points of a table still, and their fractions rise.
+    ensures points { All IsPoint result.now }
+    ensures rise { AllPairs AreInOrder result.now }
 {
-    let (_, rest) = points.split_at(points.partition_point(|point| point.edge_id < edge));
+    let (_, rest) = placed.split_at(placed.partition_point(|point| point.edge_id < edge));
     let (run, _) = rest.split_at(rest.partition_point(|point| point.edge_id <= edge));
     run
 }

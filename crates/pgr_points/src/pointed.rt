@@ -1,4 +1,4 @@
-ghost use Rattle.std.specs.Prelude.{◌≡◌, ◌↔◌, ◌++◌, ◌*◌, ◌<◌, ◌≤◌, [], ◌∷◌, ℤ, All, AllPairs, Contains, IfOk, OnOk};
+ghost use Rattle.std.specs.Prelude.{◌≡◌, ◌↔◌, ◌++◌, ◌*◌, ◌<◌, ◌≤◌, [], ◌∷◌, ℤ, List, map, All, AllPairs, Contains, IfOk, OnOk};
 ghost use Rattle.std.specs.Ordering.{int_cmp};
 ghost use Rattle.pgr_walks.specs.declared.link.LinkOf.{LinkOf};
 ghost use Rattle.pgr_walks.specs.Link.{link_cmp};
@@ -7,6 +7,7 @@ ghost use Rattle.pgr_table.specs.Points.{IsPoint};
 ghost use Rattle.pgr_points.specs.Pointed.{IsPointed};
 ghost use Rattle.pgr_points.specs.Places.{place_cmp};
 ghost use Rattle.pgr_points.specs.Senses.{parts_of_row, parts_of_sense, points_of, seen_of, AreInOrder};
+ghost use Rattle.pgr_points.specs.declared.stop.Stop.{Stop as AStop};
 ghost use Rattle.pgr_points.specs.Stops.{offset_of, part, parts, stop_at, stops};
 
 use crate::places::{points_by_place, points_of, product};
@@ -41,6 +42,7 @@ pub fn with_points(
     ensures rising { IfOk result (λ links. IsStrictlyRising (link_cmp int_cmp) links.items) }
 {
     let sight = Sight { driving, directed };
+    // From this call it is known what holds of all points.
     let _count = points.len();
     let placed = points_by_place(alloc, points)?;
     let mut links = Vec::new(alloc);
@@ -112,17 +114,38 @@ fn push_parts(
         offset: 0,
     };
     for point in points {
-        if sight.sees(direction, point.side) {
-            let next = stop_at(cost, *point);
-            push_part(links, row.id, direction, stop, next)?;
-            stop = next;
-        }
+        stop = pass(links, row.id, direction, cost, sight, stop, *point)?;
     }
     let end = Stop {
         vertex: row.target,
         offset: cost,
     };
     push_part(links, row.id, direction, stop, end)
+}
+
+/// Passes a point: where the link sees it, appends the part up to it and stops there.
+fn pass(
+    links: &mut Vec<NamedLink>,
+    edge: i64,
+    direction: Direction,
+    cost: u64,
+    sight: Sight,
+    stop: Stop,
+    point: PointRow,
+) -> Result<Stop, NoMemory>
+    requires point { IsPoint point }
+    requires ahead { stop.offset ≤ offset_of cost point }
+    ensures parts { IfOk result (λ next. (rest : List AStop)
+        → links.new.items ++ parts edge direction (next ∷ rest)
+            ≡ links.old.items ++ parts edge direction (stop ∷ (map (stop_at cost) (seen_of sight.driving sight.directed direction (point ∷ [])) ++ rest))) }
+    ensures behind { IfOk result (λ next. next.offset ≤ offset_of cost point) }
+{
+    if !sight.sees(direction, point.side) {
+        return Ok(stop);
+    }
+    let next = stop_at(cost, point);
+    push_part(links, edge, direction, stop, next)?;
+    Ok(next)
 }
 
 /// The stop at a point on a link of the cost.

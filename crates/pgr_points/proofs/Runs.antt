@@ -1,0 +1,57 @@
+-- In a list that is in parts, the elements of one part stand together, between two places of a binary search.
+use Rattle.std.proofs.Common.{◌≡◌, ℕ, ◌+◌, ◌<◌, ◌≤◌, Bool, true, false, cond, List, [], ◌∷◌, ◌++◌, length, get_or, take, drop, refl, sym, ap, ◌∙◌, arith}
+use Rattle.std.specs.List.{filter, All}
+use Rattle.std.specs.List.Sorted.{IsPartitionPoint}
+use Rattle.std.proofs.lemmas.List.{take-append-drop, get_or-take, get_or-drop, length-take, length-drop, append-nil}
+use Rattle.std.proofs.lemmas.List.Elements.{filter-append, All-head, All-tail}
+
+filter_none : {X : Type 0} (p : X → Bool) (xs : List X) → All (λ x. p x ≡ false) xs → filter p xs ≡ []
+filter_none p [] h = refl
+filter_none p (x ∷ xs) h =
+    ap (λ b. cond b (x ∷ filter p xs) (filter p xs)) (All-head (λ x. p x ≡ false) x xs h) ∙ filter_none p xs (All-tail (λ x. p x ≡ false) x xs h)
+
+filter_all : {X : Type 0} (p : X → Bool) (xs : List X) → All (λ x. p x ≡ true) xs → filter p xs ≡ xs
+filter_all p [] h = refl
+filter_all p (x ∷ xs) h =
+    ap (λ b. cond b (x ∷ filter p xs) (filter p xs)) (All-head (λ x. p x ≡ true) x xs h) ∙ ap (λ ys. x ∷ ys) (filter_all p xs (All-tail (λ x. p x ≡ true) x xs h))
+
+three_parts : {X : Type 0} (xs : List X) (first count : ℕ) → take first xs ++ (take count (drop first xs) ++ drop count (drop first xs)) ≡ xs
+three_parts xs first count = ap (λ ys. take first xs ++ ys) (take-append-drop count (drop first xs)) ∙ take-append-drop first xs
+
+filter_middle : {X : Type 0} (p : X → Bool) (front middle back : List X) → All (λ x. p x ≡ false) front → All (λ x. p x ≡ true) middle → All (λ x. p x ≡ false) back
+    → filter p (front ++ (middle ++ back)) ≡ middle
+filter_middle p front middle back f m b =
+    let front_none = filter_none p front f in
+    let middle_all = filter_all p middle m in
+    let back_none = filter_none p back b in
+    rw (filter-append, filter-append, front_none, middle_all, back_none) (append-nil middle)
+
+-- the tests tell what lies below a key, what lies up to it, and what has it
+module _ {X : Type 0} (low up same : X → Bool) (between : (x : X) → low x ≡ false → up x ≡ true → same x ≡ true) (below : (x : X) → low x ≡ true → same x ≡ false)
+    (above : (x : X) → up x ≡ false → same x ≡ false) (xs : List X) (first count : ℕ) (low_part : IsPartitionPoint (λ x. low x ≡ true) (λ x. low x ≡ false) xs first)
+    (up_part : IsPartitionPoint (λ x. up x ≡ true) (λ x. up x ≡ false) (drop first xs) count) (first_inside : first ≤ length xs)
+    (count_inside : count ≤ length (drop first xs)) where
+  front_differs : All (λ x. same x ≡ false) (take first xs)
+  front_differs k d inside =
+      let size = length-take first xs in
+      let in_front : k < first = omega arith in
+      rw (get_or-take first xs k d in_front) (below _ (low_part.0 k d (omega arith) in_front))
+
+  middle_same : All (λ x. same x ≡ true) (take count (drop first xs))
+  middle_same k d inside =
+      let size = length-take count (drop first xs) in
+      let rest = length-drop first xs in
+      let in_middle : k < count = omega arith in
+      let from : low (get_or (drop first xs) k d) ≡ false = rw (get_or-drop first xs k d) (low_part.1 (first + k) d (omega arith) (omega arith)) in
+      rw (get_or-take count (drop first xs) k d in_middle) (between _ from (up_part.0 k d (omega arith) in_middle))
+
+  back_differs : All (λ x. same x ≡ false) (drop count (drop first xs))
+  back_differs k d inside =
+      let size = length-drop count (drop first xs) in
+      rw (get_or-drop count (drop first xs) k d) (above _ (up_part.1 (count + k) d (omega arith) (omega arith)))
+
+  -- the elements between are those with the key
+  pub run_is : take count (drop first xs) ≡ filter same xs
+  run_is =
+      sym (ap (filter same) (sym (three_parts xs first count)) ∙ filter_middle same (take first xs) (take count (drop first xs))
+      (drop count (drop first xs)) front_differs middle_same back_differs)
