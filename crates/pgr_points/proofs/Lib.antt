@@ -6,3 +6,10 @@ pub mod FractionLemmas
 pub mod PlaceLemmas
 pub mod PartLemmas
 pub mod SeenLemmas
+pub mod RowLemmas
+pub mod TableLemmas
+pub mod Climbing
+pub mod Covering
+pub mod Arranging
+pub mod FitLemmas
+pub mod EndLemmas

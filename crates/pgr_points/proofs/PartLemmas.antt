@@ -19,10 +19,10 @@ use Rattle.pgr_points.proofs.Lists.{drop_one_more}
 -- points of one edge in order have offsets in order, each at most the cost
 pub offsets_in_order : (cost : ℕ) (a b : PointRow) → IsPoint a → IsPoint b → AreInOrder a b → offset_of cost a ≤ offset_of cost b
 offsets_in_order cost a b good_a good_b in_order =
-    offsets_rise cost a.over a.under b.over b.under (omega (arith, good_a.proper)) (omega (arith, good_b.proper)) in_order
+    offsets_rise cost a.over a.under b.over b.under (omega (arith, good_a.less)) (omega (arith, good_b.less)) in_order
 
 pub offset_at_most : (cost : ℕ) (point : PointRow) → IsPoint point → offset_of cost point ≤ cost
-offset_at_most cost point good = offset_within cost point.over point.under (omega (arith, good.proper))
+offset_at_most cost point good = offset_within cost point.over point.under (omega (arith, good.less))
 
 module _ (driving : Side) (directed : Bool) (edge : ℤ) (direction : Direction) (cost : ℕ) where
   -- the stops at those of the points that are seen, and then others
@@ -98,3 +98,12 @@ module _ (driving : Side) (row : EdgeRow) (points : List PointRow) (before first
       let two : second ≡ before ++ (a ++ b) = f ∙ (ap (λ links. links ++ b) e ∙ append_assoc before a b) in
       let three : third ≡ (before ++ (a ++ b)) ++ m = g ∙ ap (λ links. links ++ m) two in
       h ∙ (ap (λ links. links ++ n) three ∙ (append_assoc (before ++ (a ++ b)) m n ∙ append_assoc before (a ++ b) (m ++ n)))
+
+-- a stop that isn't behind a point isn't behind those behind that
+pub still_ahead : (cost : ℕ) (points : List PointRow) → All IsPoint points → AllPairs AreInOrder points → (i : ℕ) (stop : Stop) (e : PointRow) → i < length points
+    → stop.offset ≤ offset_of cost (get_or points i e) → (k : ℕ) (d : PointRow) → i + 1 ≤ k → k < length points → stop.offset ≤ offset_of cost (get_or points k d)
+still_ahead cost points good in_order i stop e inside here k d later inside_k =
+    let same : get_or points i d ≡ get_or points i e = get_or_default points i d e inside in
+    let step = offsets_in_order cost (get_or points i d) (get_or points k d) (good i d inside) (good k d inside_k) (in_order i k d (omega arith) inside_k) in
+    let at : offset_of cost (get_or points i d) ≡ offset_of cost (get_or points i e) = ap (offset_of cost) same in
+    omega (arith, step, at)

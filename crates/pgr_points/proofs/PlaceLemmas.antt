@@ -125,7 +125,7 @@ edge_is a e same = ap (λ x. int_eq a x) (sym same) ∙ ap is_eq (edges_equal a)
 
 -- a denominator of a point is what is compared
 under_is : (point : PointRow) → IsPoint point → max point.under 1 ≡ point.under
-under_is point good = omega (arith, good.proper)
+under_is point good = omega (arith, good.less)
 
 value_is : (a b : PointRow) → IsPoint a → IsPoint b → value_cmp a b ≡ fraction_cmp a b
 value_is a b ga gb = ap (λ n. nat_cmp (a.over * n) (b.over * max a.under 1)) (under_is b gb) ∙ ap (λ n. nat_cmp (a.over * b.under) (b.over * n)) (under_is a ga)

@@ -62,3 +62,11 @@ module _ (points : List PointRow) (driving : Side) (directed : Bool) (row : Edge
             (Among-filter (λ (point : PointRow). sees directed driving direction point.side) (points_of row.id placed) x in_run h.1.1),
       );
     }
+
+-- points that are among points of a table are such
+pub seen_good : (points others : List PointRow) → All IsPoint points → ((x : PointRow) → Among x others → Among x points) → All IsPoint others
+seen_good points others good from k d inside =
+    let x = get_or others k d in
+    let there = from x (Among-from_Contains x others (Contains-get_or others k d inside)) in
+    let at = Contains-from_Among x points there in
+    subst IsPoint at.2 (good at.0 x at.1)
