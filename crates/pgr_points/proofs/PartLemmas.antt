@@ -1,5 +1,5 @@
 -- The parts of a link, stop by stop: what is appended and what is ahead make all of them.
-use Rattle.std.proofs.Common.{◌≡◌, ℕ, ◌+◌, ◌<◌, ◌≤◌, Bool, true, false, cond, List, [], ◌∷◌, ◌++◌, length, map, get_or, drop, ℤ, pos, negsuc, refl, sym, ap, subst, ◌∙◌, arith}
+use Rattle.std.proofs.Common.{◌≡◌, ℕ, ◌+◌, ◌<◌, ◌≤◌, Bool, true, false, not, cond, List, [], ◌∷◌, ◌++◌, length, map, get_or, drop, ℤ, pos, negsuc, refl, sym, ap, subst, ◌∙◌, arith}
 use Rattle.std.proofs.lemmas.List.{append_assoc, append-nil, length-drop, get_or_default}
 use Rattle.std.specs.List.{filter, All, AllPairs}
 use Rattle.pgr_outside.specs.declared.side.Side.{Side}
@@ -77,14 +77,14 @@ module _ (driving : Side) (directed : Bool) (edge : ℤ) (direction : Direction)
 
 -- what a row appends, sense by sense
 module _ (driving : Side) (row : EdgeRow) (points : List PointRow) (before first second : List (LinkOf ℤ)) where
-  pub directed_row : (directed : Bool) → directed ≡ true → first ≡ before ++ parts_of_sense row Forward row.cost (seen_of driving directed Forward points)
+  pub directed_row : (directed : Bool) → not directed ≡ false → first ≡ before ++ parts_of_sense row Forward row.cost (seen_of driving directed Forward points)
       → second ≡ first ++ parts_of_sense row Backward row.reverse_cost (seen_of driving directed Backward points) → second ≡ before ++ parts_of_row driving directed row points
   directed_row true is e f =
       let back = parts_of_sense row Backward row.reverse_cost (seen_of driving true Backward points) in
       f ∙ (ap (λ links. links ++ back) e ∙ append_assoc before (parts_of_sense row Forward row.cost (seen_of driving true Forward points)) back)
   directed_row false is e f = cc
 
-  pub undirected_row : (directed : Bool) (third fourth : List (LinkOf ℤ)) → directed ≡ false
+  pub undirected_row : (directed : Bool) (third fourth : List (LinkOf ℤ)) → not directed ≡ true
       → first ≡ before ++ parts_of_sense row Forward row.cost (seen_of driving directed Forward points)
       → second ≡ first ++ parts_of_sense row Backward row.reverse_cost (seen_of driving directed Backward points)
       → third ≡ second ++ parts_of_sense row Backward row.cost (seen_of driving directed Backward points)
@@ -107,3 +107,8 @@ still_ahead cost points good in_order i stop e inside here k d later inside_k =
     let step = offsets_in_order cost (get_or points i d) (get_or points k d) (good i d inside) (good k d inside_k) (in_order i k d (omega arith) inside_k) in
     let at : offset_of cost (get_or points i d) ≡ offset_of cost (get_or points i e) = ap (offset_of cost) same in
     omega (arith, step, at)
+
+-- a stop that isn't behind a point lies within the link
+pub still_within : (cost : ℕ) (points : List PointRow) → All IsPoint points → (i : ℕ) (stop : Stop) (e : PointRow) → i < length points
+    → stop.offset ≤ offset_of cost (get_or points i e) → stop.offset ≤ cost
+still_within cost points good i stop e inside here = let step = offset_at_most cost (get_or points i e) (good i e inside) in omega arith

@@ -29,6 +29,19 @@ module _ (row : EdgeRow) (direction : Direction) (seen : List PointRow) (link : 
   sense_from cost n e h = subst (λ c. Among link (parts_of_sense row direction c seen)) (sym e) h
 
 module _ (driving : Side) (row : EdgeRow) (run : List PointRow) (link : LinkOf ℤ) where
+  -- what a row appends in the undirected graph, in order
+  abbrev there : List (LinkOf ℤ)
+  there = parts_of_sense row Forward row.cost (seen_of driving false Forward run)
+
+  abbrev back : List (LinkOf ℤ)
+  back = parts_of_sense row Backward row.reverse_cost (seen_of driving false Backward run)
+
+  abbrev there_too : List (LinkOf ℤ)
+  there_too = parts_of_sense row Backward row.cost (seen_of driving false Backward run)
+
+  abbrev back_too : List (LinkOf ℤ)
+  back_too = parts_of_sense row Forward row.reverse_cost (seen_of driving false Forward run)
+
   -- a part of a sense is appended
   into_row : (directed : Bool) (direction : Direction) (n : ℕ) → HasSense directed row direction n
       → Among link (parts row.id direction (stops row n (seen_of driving directed direction run))) → Among link (parts_of_row driving directed row run)
@@ -39,13 +52,13 @@ module _ (driving : Side) (row : EdgeRow) (run : List PointRow) (link : LinkOf �
       Among-right link (parts_of_sense row Forward row.cost (seen_of driving true Forward run)) (parts_of_sense row Backward row.reverse_cost (seen_of driving true Backward run))
       (sense_from row Backward (seen_of driving true Backward run) link row.reverse_cost n sense h)
   into_row false Forward n (inl sense) h =
-      Among-left link _ _ (Among-left link _ _ (sense_from row Forward (seen_of driving false Forward run) link row.cost n sense h))
+      Among-left link (there ++ back) (there_too ++ back_too) (Among-left link there back (sense_from row Forward (seen_of driving false Forward run) link row.cost n sense h))
   into_row false Forward n (inr sense) h =
-      Among-right link _ _ (Among-right link _ _ (sense_from row Forward (seen_of driving false Forward run) link row.reverse_cost n sense h))
+      Among-right link (there ++ back) (there_too ++ back_too) (Among-right link there_too back_too (sense_from row Forward (seen_of driving false Forward run) link row.reverse_cost n sense h))
   into_row false Backward n (inl sense) h =
-      Among-right link _ _ (Among-left link _ _ (sense_from row Backward (seen_of driving false Backward run) link row.cost n sense h))
+      Among-right link (there ++ back) (there_too ++ back_too) (Among-left link there_too back_too (sense_from row Backward (seen_of driving false Backward run) link row.cost n sense h))
   into_row false Backward n (inr sense) h =
-      Among-left link _ _ (Among-right link _ _ (sense_from row Backward (seen_of driving false Backward run) link row.reverse_cost n sense h))
+      Among-left link (there ++ back) (there_too ++ back_too) (Among-right link there back (sense_from row Backward (seen_of driving false Backward run) link row.reverse_cost n sense h))
 
 module _ (points : List PointRow) (driving : Side) (row : EdgeRow) (link : LinkOf ℤ) (placed : List PointRow) (rise : IsStrictlyRising place_cmp placed) (good : All IsPoint placed)
     (there : (x : PointRow) → Among x points → Among x placed) (back : (x : PointRow) → Among x placed → Among x points) where

@@ -18,7 +18,7 @@ Contains-from_Among x (y ∷ ys) (inr h) = let r = Contains-from_Among x ys h in
 
 module _ {X : Type 0} (cmp : X → X → Ordering) where
   -- each element comes before those behind it, by cases on the list
-  pub Rises : List X → Type 0
+  unfoldable pub Rises : List X → Type 0
   Rises [] = Unit {0}
   Rises (x ∷ xs) = ((y : X) → Among y xs → cmp x y ≡ Less) × Rises xs
 

@@ -1,4 +1,4 @@
-use Rattle.std.proofs.Common.{◌≡◌, List, take, sym, ap, subst, ◌∙◌, arith, rules}
+use Rattle.std.proofs.Common.{◌≡◌, List, ◌++◌, take, sym, ap, subst, ◌∙◌, arith, rules}
 use Rattle.std.specs.List.{All}
 use Rattle.std.proofs.lemmas.List.{take_all}
 use Rattle.std.proofs.lemmas.List.Filters.{dedup_is}
@@ -11,15 +11,19 @@ use Rattle.pgr_points.proofs.TableLemmas.{parts_of_rows, no_rows, rows_more, par
 use Rattle.pgr_points.proofs.pointed.with_points.Goals as goal
 
 pub loop-i-init : goal.loop-i-init
-loop-i-init c = no_rows c.args.driving c.args.directed c.in_ok-placed.placed.items c.args.edges.now
+loop-i-init c = c.new-links.ensures.items ∙ no_rows c.args.driving c.args.directed c.in_ok-placed.placed.items c.args.edges.now
 
 pub push_row-requires-clause-points : goal.push_row-requires-clause-points
-push_row-requires-clause-points c = All-permutation IsPoint c.args.points.now c.in_ok-placed.placed.items c.in_ok-placed.ensures.same c.len-count.ensures.accepted.points
+push_row-requires-clause-points c =
+    let P : List PointRow → Type 0 = λ placed. All IsPoint placed in
+    subst P (sym c.as_slice.ensures.value)
+    (All-permutation IsPoint c.args.points.now c.in_ok-placed.placed.items c.in_ok-placed.ensures.same c.len-count.ensures.accepted.points)
 
 pub loop-i-preserved : goal.loop-i-preserved
 loop-i-preserved c =
     rows_more c.args.driving c.args.directed c.in_ok-placed.placed.items c.args.edges.now c.loop-i.i c.row.result c.loop-i.links.items c.push_row.new.links.items
-    c.row.ensures c.loop-i.invariant c.in_ok-push_row.ensures
+    c.row.ensures c.loop-i.invariant (c.in_ok-push_row.ensures
+    ∙ ap (λ (placed : List PointRow). c.loop-i.links.items ++ parts_of_row c.args.driving c.args.directed c.row.result (points_of c.row.result.id placed)) c.as_slice.ensures.value)
 
 pub returns-clause-links : goal.returns-clause-links
 returns-clause-links c =
