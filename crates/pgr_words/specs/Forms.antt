@@ -1,6 +1,8 @@
 -- The forms of values: what the text behind an option's equals sign stands for, if it is in the form, and what a reader of a form answers.
 use Rattle.std.specs.Prelude.{◌≡◌, ℕ, Bool, true, false, ◌&&◌, if◌then◌else◌, nat_lt, nat_le, List, length, codes, ℤ, Option, Some, None, option_map, Result, Ok, Err}
 use Rattle.std.specs.Str.{bytes_eq}
+use Rattle.pgr_outside.specs.declared.side.Side.{Side}
+use Rattle.pgr_outside.specs.declared.side.Side.TheVariants.{B, R, L}
 use Rattle.pgr_numerals.specs.Numeral.{digits_up_to}
 use Rattle.pgr_numerals.specs.NumeralList.{i64_list_of}
 use Rattle.pgr_words.specs.declared.value.ValueRefused.{ValueRefused}
@@ -30,6 +32,12 @@ ids text = option_map rising (i64_list_of most_ids text)
 -- a flag: `true` or `false`
 abbrev pub flag : List ℕ → Option Bool
 flag text = if bytes_eq text (codes "true") then Some true else (if bytes_eq text (codes "false") then Some false else None)
+
+-- a side: `b`, `r` or `l`
+abbrev pub side : List ℕ → Option Side
+side text =
+    if bytes_eq text (codes "b") then Some B
+    else (if bytes_eq text (codes "r") then Some R else (if bytes_eq text (codes "l") then Some L else None))
 
 -- a distance: digits alone, from 0 to 2^63 - 1
 abbrev pub distance : List ℕ → Option ℕ

@@ -6,7 +6,7 @@ use Rattle.std.specs.Str.{bytes_eq}
 use Rattle.pgr_words.specs.declared.function.Function.{Function}
 use Rattle.pgr_words.specs.declared.function.Function.TheVariants as function
 use Rattle.pgr_words.specs.declared.option.OptionName.{OptionName}
-use Rattle.pgr_words.specs.declared.option.OptionName.TheVariants.{Edges, Combinations, Start, End, Vids, Directed, Distance, Equicost}
+use Rattle.pgr_words.specs.declared.option.OptionName.TheVariants.{Edges, Points, Combinations, Start, End, Vids, Directed, DrivingSide, Details, Distance, Equicost}
 use Rattle.pgr_words.specs.Options.{name_of, is_same}
 
 -- the options of a function that asks for pairs, in the order in which needed ones are looked for
@@ -25,6 +25,10 @@ matrix_options = Edges ∷ Vids ∷ Directed ∷ []
 abbrev pub driving_options : List OptionName
 driving_options = Edges ∷ Start ∷ Distance ∷ Directed ∷ Equicost ∷ []
 
+-- the options of least routes between points, in the same order
+abbrev pub point_options : List OptionName
+point_options = Edges ∷ Points ∷ Start ∷ End ∷ Combinations ∷ Directed ∷ DrivingSide ∷ Details ∷ []
+
 -- each function by what it is called, with its options
 abbrev pub functions : List (List ℕ × (Function × List OptionName))
 functions =
@@ -37,6 +41,7 @@ functions =
     ∷ (codes "pgr_dijkstraCost", (function.DijkstraCost, pair_options))
     ∷ (codes "pgr_dijkstraCostMatrix", (function.DijkstraCostMatrix, matrix_options))
     ∷ (codes "pgr_drivingDistance", (function.DrivingDistance, driving_options))
+    ∷ (codes "pgr_withPoints", (function.WithPoints, point_options))
     ∷ []
 
 -- the function that is called so, and its options

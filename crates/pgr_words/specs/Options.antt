@@ -6,7 +6,7 @@ use Rattle.pgr_words.specs.declared.option.Need.{Need}
 use Rattle.pgr_words.specs.declared.option.Need.TheVariants.{Always, WithoutCombinations, Never}
 use Rattle.pgr_words.specs.declared.option.OptionName.{OptionName}
 use Rattle.pgr_words.specs.declared.option.OptionName.TheVariants as option
-use Rattle.pgr_words.specs.Forms.{file_name, ids, flag, distance}
+use Rattle.pgr_words.specs.Forms.{file_name, ids, flag, side, distance}
 
 -- an option: its name without the two hyphens, when it is needed, and what a text makes of a command, or none where the text isn't in the option's form
 pub record OptionRule : Type 0 where
@@ -24,6 +24,11 @@ rule_of option.Edges = record {
   name = codes "edges";
   need = Always;
   fill = into file_name (λ name command. record command { edges = name });
+}
+rule_of option.Points = record {
+  name = codes "points";
+  need = Always;
+  fill = into file_name (λ name command. record command { points = Some name });
 }
 rule_of option.Combinations = record {
   name = codes "combinations";
@@ -49,6 +54,16 @@ rule_of option.Directed = record {
   name = codes "directed";
   need = Never;
   fill = into flag (λ is_directed command. record command { directed = is_directed });
+}
+rule_of option.DrivingSide = record {
+  name = codes "driving_side";
+  need = Never;
+  fill = into side (λ on_side command. record command { driving_side = on_side });
+}
+rule_of option.Details = record {
+  name = codes "details";
+  need = Never;
+  fill = into flag (λ is_detailed command. record command { details = is_detailed });
 }
 rule_of option.Distance = record {
   name = codes "distance";

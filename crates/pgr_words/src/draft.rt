@@ -11,7 +11,7 @@ use crate::command::Command;
 use crate::fault::{WordFault, WordsRefused};
 use crate::function::Function;
 use crate::option::{Need, OptionName};
-use crate::value::{ValueRefused, read_distance, read_file_name, read_flag, read_ids};
+use crate::value::{ValueRefused, read_distance, read_file_name, read_flag, read_ids, read_side};
 use std::alloc::Global;
 
 /// A command that is being read: its fields so far, and the options that stood.
@@ -109,11 +109,14 @@ fn set_option(
 {
     match option {
         OptionName::Edges => command.edges = read_file_name(alloc, value)?,
+        OptionName::Points => command.points = Some(read_file_name(alloc, value)?),
         OptionName::Combinations => command.combinations = Some(read_file_name(alloc, value)?),
         OptionName::Start => command.starts = read_ids(alloc, value)?,
         OptionName::End => command.ends = read_ids(alloc, value)?,
         OptionName::Vids => command.vids = read_ids(alloc, value)?,
         OptionName::Directed => command.directed = read_flag(value)?,
+        OptionName::DrivingSide => command.driving_side = read_side(value)?,
+        OptionName::Details => command.details = read_flag(value)?,
         OptionName::Distance => command.distance = read_distance(value)?,
         OptionName::Equicost => command.equicost = read_flag(value)?,
     }

@@ -24,6 +24,8 @@ pub enum Function {
     Bridges,
     /// `pgr_drivingDistance`: the vertices within a distance of a start.
     DrivingDistance,
+    /// `pgr_withPoints`: least routes between vertices and points on edges.
+    WithPoints,
 }
 
 /// The options of a function that asks for pairs, in the order in which needed ones are looked for.
@@ -50,6 +52,18 @@ const DRIVING_OPTIONS: [OptionName; 5] = [
     OptionName::Equicost,
 ];
 
+/// The options of least routes between points, in the same order.
+const POINT_OPTIONS: [OptionName; 8] = [
+    OptionName::Edges,
+    OptionName::Points,
+    OptionName::Start,
+    OptionName::End,
+    OptionName::Combinations,
+    OptionName::Directed,
+    OptionName::DrivingSide,
+    OptionName::Details,
+];
+
 impl Function {
     /// The function that is called so, with its options, if there is one.
     pub(crate) fn named(name: &str) -> Option<(Function, &'static [OptionName])>
@@ -65,6 +79,7 @@ impl Function {
             "pgr_dijkstraCost" => Some((Function::DijkstraCost, &PAIR_OPTIONS)),
             "pgr_dijkstraCostMatrix" => Some((Function::DijkstraCostMatrix, &MATRIX_OPTIONS)),
             "pgr_drivingDistance" => Some((Function::DrivingDistance, &DRIVING_OPTIONS)),
+            "pgr_withPoints" => Some((Function::WithPoints, &POINT_OPTIONS)),
             _ => None,
         }
     }

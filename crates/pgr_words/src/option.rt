@@ -10,6 +10,8 @@ use std::fmt;
 pub enum OptionName {
     /// The file of the table of edges.
     Edges,
+    /// The file of the table of points on edges.
+    Points,
     /// The file of the table of asked pairs.
     Combinations,
     /// The vertices where routes start.
@@ -20,6 +22,10 @@ pub enum OptionName {
     Vids,
     /// Whether the graph is directed.
     Directed,
+    /// The side of the road that one drives on.
+    DrivingSide,
+    /// Whether points on the way are shown.
+    Details,
     /// How far is driven.
     Distance,
     /// Whether each vertex is given to its closest start.
@@ -61,11 +67,14 @@ impl OptionName {
     {
         let (name, need) = match self {
             OptionName::Edges => ("edges", Need::Always),
+            OptionName::Points => ("points", Need::Always),
             OptionName::Combinations => ("combinations", Need::Never),
             OptionName::Start => ("start", Need::WithoutCombinations),
             OptionName::End => ("end", Need::WithoutCombinations),
             OptionName::Vids => ("vids", Need::Always),
             OptionName::Directed => ("directed", Need::Never),
+            OptionName::DrivingSide => ("driving_side", Need::Never),
+            OptionName::Details => ("details", Need::Never),
             OptionName::Distance => ("distance", Need::Always),
             OptionName::Equicost => ("equicost", Need::Never),
         };

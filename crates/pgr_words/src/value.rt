@@ -1,9 +1,9 @@
 ghost use Rattle.std.specs.Prelude.{◌≡◌};
-ghost use Rattle.pgr_words.specs.Forms.{Reads, file_name, ids, flag, distance};
+ghost use Rattle.pgr_words.specs.Forms.{Reads, file_name, ids, flag, side, distance};
 ghost use Rattle.pgr_words.specs.Rising.{rising};
 
 use pgr_numerals::{read_digits, read_i64_list};
-use pgr_outside::{Listed, Text};
+use pgr_outside::{Listed, Side, Text};
 use std::alloc::{AllocError, Global};
 
 /// The most bytes of a file name.
@@ -64,6 +64,18 @@ pub(crate) fn read_flag(value: &str) -> Result<bool, ValueRefused>
     match value {
         "true" => Ok(true),
         "false" => Ok(false),
+        _ => Err(ValueRefused::Form),
+    }
+}
+
+/// A side: `b`, `r` or `l`.
+pub(crate) fn read_side(value: &str) -> Result<Side, ValueRefused>
+    ensures { Reads (λ on_side. on_side) (side value.now) result }
+{
+    match value {
+        "b" => Ok(Side::B),
+        "r" => Ok(Side::R),
+        "l" => Ok(Side::L),
         _ => Err(ValueRefused::Form),
     }
 }
