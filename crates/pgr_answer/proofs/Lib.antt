@@ -3,6 +3,7 @@ pub mod KeptLemmas
 pub mod PairLemmas
 pub mod FoundLemmas
 pub mod PathTables
+pub mod PointTables
 pub mod ClassesById
 pub mod ClassTables
 pub mod AnswersAlong

@@ -1,5 +1,5 @@
 -- One table at most is allowed: answers to the same pairs are one list where what is shown of a pair is one.
-use Rattle.std.proofs.Common.{◌≡◌, ◌≢◌, ℕ, ℤ, List, sym, ap, ◌∙◌, subst, arith, map, Ordering, Less, Equal, Greater, refl, true, false}
+use Rattle.std.proofs.Common.{◌≡◌, ◌≢◌, Bool, ℕ, ℤ, List, sym, ap, ◌∙◌, subst, arith, map, Ordering, Less, Equal, Greater, refl, true, false}
 use Rattle.std.specs.Prelude.{Any, Contains}
 use Rattle.std.specs.Ordering.{int_cmp, ordering_reverse}
 use Rattle.std.specs.Cmp.{IsTotalOrder}
@@ -22,6 +22,8 @@ use Rattle.pgr_answer.specs.Answers.{Answer, answer_cmp, AreAnswers}
 use Rattle.pgr_answer.specs.Costs.{IsLeastCost}
 use Rattle.pgr_answer.specs.CostTables.{IsCostTable, cost_row}
 use Rattle.pgr_answer.specs.Paths.{IsLeastBetween, IsPathTable, path_table}
+use Rattle.pgr_points.specs.Pointed.{IsPointed}
+use Rattle.pgr_answer.specs.WithPoints.{IsShownTable, shown_table}
 use Rattle.pgr_answer.specs.declared.tables.Tables.{Tables}
 use Rattle.pgr_answer.specs.Allowed.{IsAllowed, IsAllowedFor}
 use Rattle.pgr_answer.proofs.SameElements.{rising_is_one}
@@ -76,6 +78,13 @@ module _ (Has : LinkOf ℤ → Type 0) (Asked : ℤ → ℤ → Type 0) where
       (λ s t. least_is_one int_cmp int_cmp_total int_tie (λ walk. IsWalk Has s walk t)) answers others are also in
       rows_are ∙ ap (λ a. Paths (path_table a)) same ∙ sym other_are
 
+  -- the same, shown with details or without
+  one_shown_table : (details : Bool) (rows other : Rows) → IsShownTable Has Asked details rows → IsShownTable Has Asked details other → rows ≡ other
+  one_shown_table details rows other (answers, are, rows_are) (others, also, other_are) =
+      let same = answers_are_one Has Asked (IsLeastBetween Has) (λ s t walk least. (walk, least.belongs))
+      (λ s t. least_is_one int_cmp int_cmp_total int_tie (λ walk. IsWalk Has s walk t)) answers others are also in
+      rows_are ∙ ap (λ a. Paths (shown_table details a)) same ∙ sym other_are
+
   -- one table of costs
   one_cost_table : (rows other : Rows) → IsCostTable Has Asked rows → IsCostTable Has Asked other → rows ≡ other
   one_cost_table rows other (answers, are, rows_are) (others, also, other_are) =
@@ -128,6 +137,8 @@ one_for function.Dijkstra command tables = one_path_table (IsLinkOfTable tables.
 one_for function.DijkstraCost command tables = one_cost_table (IsLinkOfTable tables.edges command.directed) (IsAsked command.starts command.ends tables.combinations)
 one_for function.DijkstraCostMatrix command tables = one_cost_table (IsLinkOfTable tables.edges command.directed) (IsAskedOfMatrix command.vids)
 one_for function.DrivingDistance command tables = one_reach_table (IsLinkOfTable tables.edges command.directed) command.starts command.distance command.equicost
+one_for function.WithPoints command tables =
+    one_shown_table (IsPointed tables.edges tables.points command.driving_side command.directed) (IsAsked command.starts command.ends tables.combinations) command.details
 
 -- one table at most is allowed for a command over tables
 pub one_is_allowed : (command : Command) (tables : Tables) (rows other : Rows) → IsAllowed command tables rows → IsAllowed command tables other → rows ≡ other

@@ -1,5 +1,5 @@
 -- What is found for the pairs of a network, as a table over the links that it has.
-use Rattle.std.proofs.Common.{◌≡◌, ◌≢◌, ℕ, ℤ, pos, ◌<◌, List, [], ◌∷◌, length, get_or, inl, inr, map, sym, ap, subst, ◌∙◌, refl, arith, Ordering, Less}
+use Rattle.std.proofs.Common.{◌≡◌, ◌≢◌, Bool, ℕ, ℤ, pos, ◌<◌, List, [], ◌∷◌, length, get_or, inl, inr, map, sym, ap, subst, ◌∙◌, refl, arith, Ordering, Less}
 use Rattle.std.specs.Prelude.{◌↔◌, All, Any, Contains}
 use Rattle.std.specs.Ordering.{int_cmp, nat_cmp, ordering_then}
 use Rattle.std.proofs.lemmas.List.{get_or-map, length-map, get_or_default}
@@ -22,6 +22,7 @@ use Rattle.pgr_answer.specs.Gathering.{IsNumberedPair}
 use Rattle.pgr_answer.specs.Finding.{IsPairAmong, HasNames, pair_of, found_cmp, AreFound}
 use Rattle.pgr_answer.specs.Networks.{IsRouteBetween}
 use Rattle.pgr_answer.specs.Paths.{IsLeastBetween, IsPathTable, path_table}
+use Rattle.pgr_answer.specs.WithPoints.{shown_table, IsShownTable}
 use Rattle.pgr_answer.specs.Found.{seen, answer_of, costs_found, walks_found}
 use Rattle.pgr_answer.proofs.AnswersAlong.{Any-map, answers-seen, answers-asked, answers-over, IsLeastBetween-over, IsLeastCost-over}
 
@@ -122,22 +123,32 @@ module _ (names : List ℤ) (Asked : ℤ → ℤ → Type 0) (pairs : List Pair)
       }
 
     module _ (Has : LinkOf ℤ → Type 0) (exactly : (link : LinkOf ℤ) → Contains links link ↔ Has link) where
+      -- the routes that are found answer the pairs that are asked for with least walks
+      pub walks_answer : (found : List (Found (List (LinkOf ℕ)))) → AreFound (Contains links) (IsRouteBetween links names) names pairs found → IsStrictlyRising found_cmp found
+          → AreAnswers Has Asked (IsLeastBetween Has) (walks_found names found)
+      walks_answer found are rise =
+          let answers = answers_found (IsRouteBetween links names) found are rise in
+          let seen_so = answers-seen (map (named names)) (Contains links) Asked (IsRouteBetween links names) (IsLeastBetween (Contains links))
+          (λ s t route between. between.least) (map (answer_of names) found) answers in
+          let walks = subst (AreAnswers (Contains links) Asked (IsLeastBetween (Contains links))) (map-both (seen (map (named names))) (answer_of names) found) seen_so in
+          answers-over (Contains links) Has exactly Asked (IsLeastBetween (Contains links)) (IsLeastBetween Has)
+          (IsLeastBetween-over (Contains links) Has exactly) (walks_found names found) walks
+
+      -- their rows are a table of paths that are shown with details or without
+      pub shown_table_found : (details : Bool) (found : List (Found (List (LinkOf ℕ)))) (rows : List PathRow)
+          → AreFound (Contains links) (IsRouteBetween links names) names pairs found
+          → IsStrictlyRising found_cmp found
+          → rows ≡ shown_table details (walks_found names found)
+          → IsShownTable Has Asked details (Paths rows)
+      shown_table_found details found rows are rise rows_are = (walks_found names found, walks_answer found are rise, ap Paths rows_are)
+
       -- the rows of the routes that are found are a table of paths
       pub path_table_found : (found : List (Found (List (LinkOf ℕ)))) (rows : List PathRow)
           → AreFound (Contains links) (IsRouteBetween links names) names pairs found
           → IsStrictlyRising found_cmp found
           → rows ≡ path_table (walks_found names found)
           → IsPathTable Has Asked (Paths rows)
-      path_table_found found rows are rise rows_are =
-          let answers = answers_found (IsRouteBetween links names) found are rise in
-          let seen_so = answers-seen (map (named names)) (Contains links) Asked (IsRouteBetween links names) (IsLeastBetween (Contains links))
-          (λ s t route between. between.least) (map (answer_of names) found) answers in
-          let walks = subst (AreAnswers (Contains links) Asked (IsLeastBetween (Contains links))) (map-both (seen (map (named names))) (answer_of names) found) seen_so in (
-            walks_found names found,
-            answers-over (Contains links) Has exactly Asked (IsLeastBetween (Contains links)) (IsLeastBetween Has)
-                (IsLeastBetween-over (Contains links) Has exactly) (walks_found names found) walks,
-            ap Paths rows_are,
-          )
+      path_table_found found rows are rise rows_are = (walks_found names found, walks_answer found are rise, ap Paths rows_are)
 
       -- the rows of the costs that are found are a table of costs
       pub cost_table_found : {Kept : Type 0} (cost : Kept → ℕ) (found : List (Found Kept)) (rows : List CostRow)

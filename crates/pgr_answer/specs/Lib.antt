@@ -17,6 +17,7 @@ pub mod Dijkstra
 pub mod DijkstraCost
 pub mod DijkstraCostMatrix
 pub mod DrivingDistance
+pub mod WithPoints
 pub mod Allowed
 pub mod Networks
 pub mod Found

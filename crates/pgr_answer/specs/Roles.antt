@@ -5,23 +5,26 @@ use Rattle.pgr_words.specs.declared.function.Function.{Function}
 use Rattle.pgr_answer.specs.declared.role.Kind.{Kind}
 use Rattle.pgr_answer.specs.declared.role.Kind.TheVariants as kind
 use Rattle.pgr_answer.specs.declared.role.Role.{Role}
-use Rattle.pgr_answer.specs.declared.role.Role.TheVariants.{Edges, Combinations}
+use Rattle.pgr_answer.specs.declared.role.Role.TheVariants.{Edges, Points, Combinations}
 
 -- the roles, in the order in which their files are read
 abbrev pub roles : List Role
-roles = Edges ∷ Combinations ∷ []
+roles = Edges ∷ Points ∷ Combinations ∷ []
 
 -- what a role is called: as the option that names its file
 abbrev pub name_of : Role → List ℕ
 name_of Edges = codes "edges"
+name_of Points = codes "points"
 name_of Combinations = codes "combinations"
 
 -- the name of the file that has this role to a command, if the command names one
 abbrev pub file_name_of : Command → Role → Option (List ℕ)
 file_name_of command Edges = Some command.edges
+file_name_of command Points = command.points
 file_name_of command Combinations = command.combinations
 
 -- what the file of this role is read as by a function
 abbrev pub kind_of : Function → Role → Kind
 kind_of function Edges = kind.Edges
+kind_of function Points = kind.Points
 kind_of function Combinations = kind.Combinations

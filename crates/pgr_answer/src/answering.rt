@@ -19,6 +19,7 @@ use crate::driving_distance::driving_distance_rows;
 use crate::reading::read_tables;
 use crate::refused::Refused;
 use crate::tables::Tables;
+use crate::with_points::with_points_rows;
 use pgr_outside::{Listed, NoMemory, Store};
 use pgr_rows::Rows;
 use pgr_words::{Command, Function};
@@ -75,5 +76,6 @@ fn allowed_rows(alloc: Global, command: &Command, tables: &Tables) -> Result<Row
         Function::DijkstraCost => dijkstra_cost_rows(alloc, command, tables),
         Function::DijkstraCostMatrix => dijkstra_cost_matrix_rows(alloc, command, tables),
         Function::DrivingDistance => driving_distance_rows(alloc, command, tables),
+        Function::WithPoints => with_points_rows(alloc, command, tables),
     }
 }

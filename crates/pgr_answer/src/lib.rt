@@ -30,11 +30,14 @@ mod network;
 mod pair;
 mod pairs;
 mod path_rows;
+mod point_rows;
+mod pointed_network;
 mod reach_rows;
 mod reading;
 mod refused;
 mod role;
 mod tables;
+mod with_points;
 #[cfg(test)]
 mod tests;
 

@@ -37,7 +37,12 @@ pub(crate) fn rows_of_routes(
 ///
 /// They are numbered in the path from 1, and in the table from the number of the last row on. After `NoMemory` the
 /// table may have some of them.
-fn push_path(rows: &mut Vec<PathRow>, start: i64, end: i64, steps: &[Step]) -> Result<(), NoMemory>
+pub(crate) fn push_path(
+    rows: &mut Vec<PathRow>,
+    start: i64,
+    end: i64,
+    steps: &[Step],
+) -> Result<(), NoMemory>
     ensures { IfOk result (λ _. rows.new.items ≡ rows.old.items ++ numbered_from (length rows.old.items + 1) (path_rows start end 1 steps.now)) }
 {
     for (i, step) in steps.iter().enumerate() {

@@ -9,11 +9,13 @@ use std::fmt;
 pub enum Role {
     /// The table of edges.
     Edges,
+    /// The table of points on edges.
+    Points,
     /// The table of asked pairs.
     Combinations,
 }
 
-const ROLES: [Role; 2] = [Role::Edges, Role::Combinations];
+const ROLES: [Role; 3] = [Role::Edges, Role::Points, Role::Combinations];
 
 /// The roles, in the order in which their files are read.
 pub(crate) fn roles() -> &'static [Role]
@@ -29,6 +31,7 @@ impl Role {
     {
         match self {
             Role::Edges => "edges",
+            Role::Points => "points",
             Role::Combinations => "combinations",
         }
     }
@@ -39,6 +42,10 @@ impl Role {
     {
         match self {
             Role::Edges => Some(command.edges.as_str()),
+            Role::Points => match &command.points {
+                Some(name) => Some(name.as_str()),
+                None => None,
+            },
             Role::Combinations => match &command.combinations {
                 Some(name) => Some(name.as_str()),
                 None => None,
@@ -58,6 +65,8 @@ impl fmt::Display for Role {
 pub(crate) enum Kind {
     /// A table of edges.
     Edges,
+    /// A table of points on edges.
+    Points,
     /// A table of asked pairs.
     Combinations,
 }
@@ -69,6 +78,7 @@ impl Kind {
     {
         match role {
             Role::Edges => Kind::Edges,
+            Role::Points => Kind::Points,
             Role::Combinations => Kind::Combinations,
         }
     }

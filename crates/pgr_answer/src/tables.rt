@@ -3,7 +3,9 @@ ghost use Rattle.pgr_answer.specs.Tables.{no_tables, judged_as};
 ghost use Rattle.pgr_answer.specs.Reading.{IsTableRead};
 
 use crate::role::Kind;
-use pgr_table::{EdgeTable, PairTable, TableRefused, read_combinations, read_edges};
+use pgr_table::{
+    EdgeTable, PairTable, PointTable, TableRefused, read_combinations, read_edges, read_points,
+};
 use std::alloc::Global;
 
 /// The tables that a command asks about, one of each kind; a table without a file has no row.
@@ -11,6 +13,8 @@ use std::alloc::Global;
 pub(crate) struct Tables {
     /// The edges.
     pub edges: EdgeTable,
+    /// The points on edges.
+    pub points: PointTable,
     /// The asked pairs.
     pub combinations: PairTable,
 }
@@ -22,6 +26,7 @@ impl Tables {
     {
         Tables {
             edges: EdgeTable::empty(alloc),
+            points: PointTable::empty(alloc),
             combinations: PairTable::empty(alloc),
         }
     }
@@ -39,6 +44,7 @@ impl Tables {
     {
         match kind {
             Kind::Edges => self.edges = read_edges(alloc, bytes, false)?,
+            Kind::Points => self.points = read_points(alloc, bytes)?,
             Kind::Combinations => self.combinations = read_combinations(alloc, bytes)?,
         }
         Ok(())
