@@ -13,3 +13,4 @@ pub mod Covering
 pub mod Arranging
 pub mod FitLemmas
 pub mod EndLemmas
+pub mod Examples

@@ -14,6 +14,8 @@ mod places;
 mod pointed;
 mod sight;
 mod stop;
+#[cfg(test)]
+mod tests;
 
 pub use collapsing::collapse;
 pub use laws::{parts_add_up, pointed_ends_are_few, pointed_links_fit, points_are_seen_in_one_order};
