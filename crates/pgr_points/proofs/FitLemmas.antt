@@ -84,8 +84,12 @@ module _ (points : List PointRow) (are : ArePoints points) (driving : Side) (dir
   columns_cost : (row : EdgeRow) → cost_of (columns row) ≡ costs_of row
   unfolding columns
   columns_cost row =
-      omega (arith, cost_of-append (parts_of_sense row Forward row.cost (seen_by row Forward)) (parts_of_sense row Forward row.reverse_cost (seen_by row Backward)),
-      sense_cost row Forward row.cost, sense_cost row Backward row.reverse_cost)
+      omega (
+        arith,
+        cost_of-append (parts_of_sense row Forward row.cost (seen_by row Forward)) (parts_of_sense row Forward row.reverse_cost (seen_by row Backward)),
+        sense_cost row Forward row.cost,
+        sense_cost row Backward row.reverse_cost,
+      )
 
   all_columns_cost : (rows : List EdgeRow) → cost_of (flat_map columns rows) ≡ sum_of_costs rows
   all_columns_cost [] = refl

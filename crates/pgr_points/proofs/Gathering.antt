@@ -111,8 +111,8 @@ module _ (all rows : List Step) (kept i : ℕ) (held : Step) (h : Stands all row
   unfolding rest
   row_stays stays = record {
     stay = ap (λ xs. xs ++ gathered row rest) (ap (λ n. take n (set rows kept held)) (add-one kept) ∙ take-suc-set rows kept held (omega (arith, h.behind, h.size)))
-      ∙ (append_assoc (take kept rows) (held ∷ []) (gathered row rest)
-      ∙ (sym (ap (λ g. take kept rows ++ g) (ap (gathered held) all_ahead ∙ kept_step held row rest some_left stays)) ∙ h.stay));
+        ∙ (append_assoc (take kept rows) (held ∷ []) (gathered row rest)
+        ∙ (sym (ap (λ g. take kept rows ++ g) (ap (gathered held) all_ahead ∙ kept_step held row rest some_left stays)) ∙ h.stay));
     ahead = drop-set-lt (i + 1) rows kept held (omega (arith, h.behind)) ∙ ahead_again;
     size = length-set rows kept held ∙ h.size;
     behind = omega (arith, h.behind);

@@ -22,7 +22,6 @@ use Rattle.pgr_points.specs.Places.{value_cmp, place_cmp}
 use Rattle.pgr_points.specs.Senses.{points_of, AreInOrder}
 use Rattle.pgr_points.proofs.FractionLemmas.{place_total}
 
-
 -- an order after another is equal where both are, and less where the first is, or the first is equal and it is
 then_equal : (o p : Ordering) → ordering_then o p ≡ Equal → (o ≡ Equal) × (p ≡ Equal)
 then_equal Less p e = cc

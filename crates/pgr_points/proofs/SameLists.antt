@@ -54,10 +54,13 @@ module _ {X : Type 0} (cmp : X → X → Ordering) where
         same (inl e) h = sym e
         same (inr g) (inl e) = e
         same (inr g) (inr h) = absurd (apart x y (p.0 y h) (q.0 x g))
+
         pick : (z : X) (h : X) (zs : List X) → Among z (h ∷ zs) → (h ≡ z → ⊥) → Among z zs
         pick z h zs (inl e) differ = absurd (differ e)
         pick z h zs (inr m) differ = m
+
         behind : (z : X) → Among z xs → x ≡ y → Among z ys
         behind z h heads = pick z y ys (there z (inr h)) (λ e. let less : cmp x x ≡ Less = subst (λ w. cmp x w ≡ Less) (sym (heads ∙ e)) (p.0 z h) in apart x x less less)
+
         ahead : (z : X) → Among z ys → x ≡ y → Among z xs
         ahead z h heads = pick z x xs (back z (inr h)) (λ e. let less : cmp y y ≡ Less = subst (λ w. cmp y w ≡ Less) (sym (sym heads ∙ e)) (q.0 z h) in apart y y less less)

@@ -94,9 +94,9 @@ module _ (same : LinkOf ℤ → LinkOf ℤ → Bool) (ties : (x y : LinkOf ℤ) 
       let P : List (LinkOf ℤ) → Type 0 = λ ls. Contains ls link in
       let Q : List (LinkOf ℤ) → Type 0 = λ ls. Among link ls in (
         λ h. pointed_from points driving directed placed rise good moved rows link (subst Q are (Among-from_Contains link links
-          (Contains-permutation sorted links link (IsPermutation-sym links sorted sorted_is) (Contains-from_dedup same sorted link (subst P last_is h))))),
+            (Contains-permutation sorted links link (IsPermutation-sym links sorted sorted_is) (Contains-from_dedup same sorted link (subst P last_is h))))),
         λ h. subst P (sym last_is) (Contains-dedup same_equivalence same_is_equality sorted link (Contains-permutation links sorted link sorted_is
-          (Contains-from_Among link links (subst Q (sym are) (pointed_to points driving directed placed rise good moved rows link h))))),
+            (Contains-from_Among link links (subst Q (sym are) (pointed_to points driving directed placed rise good moved rows link h))))),
       )
 
   -- and leave them rising strictly

@@ -18,5 +18,7 @@ mod stop;
 mod tests;
 
 pub use collapsing::collapse;
-pub use laws::{parts_add_up, pointed_ends_are_few, pointed_links_fit, points_are_seen_in_one_order};
+pub use laws::{
+    parts_add_up, pointed_ends_are_few, pointed_links_fit, points_are_seen_in_one_order,
+};
 pub use pointed::with_points;

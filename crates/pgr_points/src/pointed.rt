@@ -68,10 +68,24 @@ fn push_row(
 {
     let points = points_of(placed, row.id);
     push_sense(links, row, Direction::Forward, row.cost, sight, points)?;
-    push_sense(links, row, Direction::Backward, row.reverse_cost, sight, points)?;
+    push_sense(
+        links,
+        row,
+        Direction::Backward,
+        row.reverse_cost,
+        sight,
+        points,
+    )?;
     if !sight.directed {
         push_sense(links, row, Direction::Backward, row.cost, sight, points)?;
-        push_sense(links, row, Direction::Forward, row.reverse_cost, sight, points)?;
+        push_sense(
+            links,
+            row,
+            Direction::Forward,
+            row.reverse_cost,
+            sight,
+            points,
+        )?;
     }
     Ok(())
 }
@@ -137,7 +151,7 @@ fn pass(
     requires ahead { stop.offset ≤ offset_of cost point }
     ensures parts { IfOk result (λ next. (rest : List AStop)
         → links.new.items ++ parts edge direction (next ∷ rest)
-            ≡ links.old.items ++ parts edge direction (stop ∷ (map (stop_at cost) (seen_of sight.driving sight.directed direction (point ∷ [])) ++ rest))) }
+        ≡ links.old.items ++ parts edge direction (stop ∷ (map (stop_at cost) (seen_of sight.driving sight.directed direction (point ∷ [])) ++ rest))) }
     ensures behind { IfOk result (λ next. next.offset ≤ offset_of cost point) }
 {
     if !sight.sees(direction, point.side) {

@@ -24,7 +24,7 @@ loop-point-preserved c =
     let passed : Q c.args.row.id = subst Q (to_z-of_z w64 c.args.row.id id_fits) c.in_ok-stop.ensures.parts in
     record {
       parts = parts_step c.args.sight.driving c.args.sight.directed c.args.row.id c.args.direction c.args.cost points _ c.loop-point.links.items _ i c.loop-point.stop
-        c.loop-point.invariant.parts c.pass.new.links.items c.in_ok-stop.stop none inside passed;
+          c.loop-point.invariant.parts c.pass.new.links.items c.in_ok-stop.stop none inside passed;
       within = still_within c.args.cost points c.requires.points i c.in_ok-stop.stop _ inside c.in_ok-stop.ensures.behind;
       ahead = still_ahead c.args.cost points c.requires.points c.requires.rise i c.in_ok-stop.stop _ inside c.in_ok-stop.ensures.behind;
     }
