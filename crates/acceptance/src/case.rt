@@ -1,4 +1,4 @@
-//! A case: a run over two files in memory, and what it ends with.
+//! A case: a run over files in memory, and what it ends with.
 
 use pgr_outside::{MemorySink, MemoryStore};
 use pgr_run::{Status, run};
@@ -6,13 +6,15 @@ use std::alloc::{AllocError, Global};
 use std::process::Abort;
 use std::test::Fail;
 
-/// What a run is over: the content of its two files, and which calls fail, each by its number, counted from 1.
+/// What a run is over: the content of its files, and which calls fail, each by its number, counted from 1.
 #[derive(Clone, Copy)]
 pub(crate) struct Case<'a> {
     /// The content of `a.csv`, or none where the store hasn't that file.
     pub edges: Option<&'a [u8]>,
     /// The content of `p.csv`.
     pub pairs: &'a [u8],
+    /// The content of `points.csv`.
+    pub points: &'a [u8],
     /// The reads of the store that fail.
     pub failing_reads: &'a [u64],
     /// The writes to the output that fail.
@@ -30,11 +32,12 @@ struct Ended {
 }
 
 impl<'a> Case<'a> {
-    /// A case over these edges, where `p.csv` is empty and no call fails.
+    /// A case over these edges, where the other files are empty and no call fails.
     pub(crate) fn over(edges: &'a [u8]) -> Case<'a> {
         Case {
             edges: Some(edges),
             pairs: b"",
+            points: b"",
             failing_reads: &[],
             failing_writes: &[],
             failing_messages: &[],
@@ -104,6 +107,8 @@ impl<'a> Case<'a> {
         }
         let name = String::from_str(alloc, "p.csv")?;
         files.push((name, Vec::from_slice(alloc, self.pairs)?))?;
+        let name = String::from_str(alloc, "points.csv")?;
+        files.push((name, Vec::from_slice(alloc, self.points)?))?;
         let fails = Vec::from_slice(alloc, self.failing_reads)?;
         Ok(MemoryStore::new(files, 16, fails))
     }

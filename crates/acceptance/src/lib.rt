@@ -16,6 +16,8 @@ mod failures;
 #[cfg(test)]
 mod paths;
 #[cfg(test)]
+mod points;
+#[cfg(test)]
 mod refusals;
 #[cfg(test)]
 mod tables;
