@@ -6,6 +6,7 @@ use std::test::Fail;
 
 /// An edge of cost 3 both ways, and a point at half of it.
 const STREET: &[u8] = b"id,source,target,cost,reverse_cost\n1,1,2,3,3\n";
+
 const HALF: &[u8] = b"pid,edge_id,fraction,side\n1,1,0.5,b\n";
 
 /// A run over these edges and points gives these rows.
@@ -82,6 +83,7 @@ fn combinations_name_points(rt: HostRuntime) -> Result<(), Fail> {
 
 /// An edge of cost 4 both ways, and a point at a quarter of it, on its right.
 const AVENUE: &[u8] = b"id,source,target,cost,reverse_cost\n1,1,2,4,4\n";
+
 const ON_THE_RIGHT: &[u8] = b"pid,edge_id,fraction,side\n1,1,1/4,r\n";
 
 /// To the point from both ends, where links of both directions see it.
@@ -117,9 +119,7 @@ fn a_direction_sees_the_side_that_one_drives_on(rt: HostRuntime) -> Result<(), F
 }
 
 #[test]
-fn driving_on_both_sides_and_undirected_links_see_all_points(
-    rt: HostRuntime,
-) -> Result<(), Fail> {
+fn driving_on_both_sides_and_undirected_links_see_all_points(rt: HostRuntime) -> Result<(), Fail> {
     let options = "--start=1,2 --end=-1 --driving_side=b";
     answers(&rt, AVENUE, ON_THE_RIGHT, options, SEEN_BOTH_WAYS)?;
     let options = "--start=1,2 --end=-1 --driving_side=l --directed=false";
@@ -286,9 +286,7 @@ fn points_are_judged_behind_edges_and_before_combinations(rt: HostRuntime) -> Re
 }
 
 #[test]
-fn points_are_needed_behind_edges_and_a_side_is_one_of_three(
-    rt: HostRuntime,
-) -> Result<(), Fail> {
+fn points_are_needed_behind_edges_and_a_side_is_one_of_three(rt: HostRuntime) -> Result<(), Fail> {
     let case = Case::over(STREET);
     let line = "pgr_withPoints --start=1 --end=2";
     case.refuses(&rt, line, Status::Words, "pgr: option edges missing\n")?;

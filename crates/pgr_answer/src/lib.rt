@@ -37,9 +37,9 @@ mod reading;
 mod refused;
 mod role;
 mod tables;
-mod with_points;
 #[cfg(test)]
 mod tests;
+mod with_points;
 
 pub use answered::{Answered, Note};
 pub use answering::answer;

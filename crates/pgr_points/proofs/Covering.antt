@@ -43,7 +43,8 @@ Among-ends {V} link (first ∷ walk) (inl e) = inl (ap (λ (l : LinkOf V). l.to)
 Among-ends link (first ∷ walk) (inr h) = inr (Among-ends link walk h)
 
 module _ {V : Type 0} (Has : LinkOf V → Type 0) (t : V) where
-  module _ (s : V) (link : LinkOf V) (walk : List (LinkOf V)) (from : link.from ≡ s) (apart : Apart (vertices_of s (link ∷ walk))) (other : LinkOf V) (later : Among other walk) where
+  module _ (s : V) (link : LinkOf V) (walk : List (LinkOf V)) (from : link.from ≡ s) (apart : Apart (vertices_of s (link ∷ walk))) (other : LinkOf V) (later : Among other
+      walk) where
     end_differs : other.to ≡ link.to → ⊥
     end_differs e = apart.1.0 (subst (λ v. Among v (map (λ (l : LinkOf V). l.to) walk)) e (Among-ends other walk later))
 

@@ -41,7 +41,8 @@ part_ends : (edge : ℤ) (direction : Direction) (stop next : Stop) (more : List
 part_ends edge Forward stop next more link e = (inl (ap (λ (l : LinkOf ℤ). l.from) e), inr (inl (ap (λ (l : LinkOf ℤ). l.to) e)))
 part_ends edge Backward stop next more link e = (inr (inl (ap (λ (l : LinkOf ℤ). l.from) e)), inl (ap (λ (l : LinkOf ℤ). l.to) e))
 
-parts_ends : (edge : ℤ) (direction : Direction) (ss : List Stop) (link : LinkOf ℤ) → Among link (parts edge direction ss) → Among link.from (vertices ss) × Among link.to (vertices ss)
+parts_ends : (edge : ℤ) (direction : Direction) (ss : List Stop) (link : LinkOf ℤ) → Among link (parts edge direction ss)
+    → Among link.from (vertices ss) × Among link.to (vertices ss)
 unfolding vertices
 parts_ends edge direction [] link h = absurd h
 parts_ends edge direction (stop ∷ []) link h = absurd h

@@ -135,7 +135,8 @@ module _ (points : List PointRow) (are : ArePoints points) (driving : Side) (dir
 
   part_covered : (row : EdgeRow) (link : LinkOf ℤ) → IsPartOfRow points driving directed row link → IsCovered (columns row) link
   part_covered row link h =
-      let seen_is : h.seen ≡ seen_by row h.direction = seen_once points driving directed row h.direction h.seen (seen_by row h.direction) h.are_seen (are_seen_by row h.direction) in
+      let seen_is : h.seen ≡ seen_by row h.direction = seen_once points driving directed row h.direction h.seen (seen_by row h.direction) h.are_seen (are_seen_by row
+      h.direction) in
       let among : Among link (parts row.id h.direction (stops row h.cost h.seen)) = Among-from_Contains link (parts row.id h.direction (stops row h.cost h.seen)) h.is_part in
       into_columns row link directed refl h.direction h.cost h.sense
       (subst (λ seen. Among link (parts row.id h.direction (stops row h.cost seen))) seen_is among)

@@ -54,11 +54,14 @@ module _ (driving : Side) (row : EdgeRow) (run : List PointRow) (link : LinkOf �
   into_row false Forward n (inl sense) h =
       Among-left link (there ++ back) (there_too ++ back_too) (Among-left link there back (sense_from row Forward (seen_of driving false Forward run) link row.cost n sense h))
   into_row false Forward n (inr sense) h =
-      Among-right link (there ++ back) (there_too ++ back_too) (Among-right link there_too back_too (sense_from row Forward (seen_of driving false Forward run) link row.reverse_cost n sense h))
+      Among-right link (there ++ back) (there_too ++ back_too) (Among-right link there_too back_too (sense_from row Forward (seen_of driving false Forward run) link
+      row.reverse_cost n sense h))
   into_row false Backward n (inl sense) h =
-      Among-right link (there ++ back) (there_too ++ back_too) (Among-left link there_too back_too (sense_from row Backward (seen_of driving false Backward run) link row.cost n sense h))
+      Among-right link (there ++ back) (there_too ++ back_too) (Among-left link there_too back_too (sense_from row Backward (seen_of driving false Backward run) link row.cost
+      n sense h))
   into_row false Backward n (inr sense) h =
-      Among-left link (there ++ back) (there_too ++ back_too) (Among-right link there back (sense_from row Backward (seen_of driving false Backward run) link row.reverse_cost n sense h))
+      Among-left link (there ++ back) (there_too ++ back_too) (Among-right link there back (sense_from row Backward (seen_of driving false Backward run) link row.reverse_cost
+      n sense h))
 
 module _ (points : List PointRow) (driving : Side) (row : EdgeRow) (link : LinkOf ℤ) (placed : List PointRow) (rise : IsStrictlyRising place_cmp placed) (good : All IsPoint placed)
     (there : (x : PointRow) → Among x points → Among x placed) (back : (x : PointRow) → Among x placed → Among x points) where

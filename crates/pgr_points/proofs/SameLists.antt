@@ -34,7 +34,9 @@ module _ {X : Type 0} (cmp : X → X → Ordering) where
   unfolding Rises
   rising-from_Rises [] rises i j d before inside = absurd (omega arith)
   rising-from_Rises (x ∷ xs) rises zero zero d before inside = absurd (omega arith)
-  rising-from_Rises (x ∷ xs) rises zero (suc j) d before inside = rises.0 (get_or xs j d) (Among-from_Contains (get_or xs j d) xs (j, omega arith, get_or_default xs j (get_or xs j d) d (omega arith)))
+  rising-from_Rises (x ∷ xs) rises zero (suc j) d before inside =
+      let y = get_or xs j d in
+      rises.0 y (Among-from_Contains y xs (j, omega arith, get_or_default xs j y d (omega arith)))
   rising-from_Rises (x ∷ xs) rises (suc i) zero d before inside = absurd (omega arith)
   rising-from_Rises (x ∷ xs) rises (suc i) (suc j) d before inside = rising-from_Rises xs rises.1 i j d (omega arith) (omega arith)
 

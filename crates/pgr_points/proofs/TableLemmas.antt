@@ -41,7 +41,8 @@ pub no_rows : (driving : Side) (directed : Bool) (placed : List PointRow) (rows 
 unfolding parts_of_rows
 no_rows driving directed placed rows = refl
 
-pub rows_more : (driving : Side) (directed : Bool) (placed : List PointRow) (rows : List EdgeRow) (i : ℕ) (row : EdgeRow) (before after : List (LinkOf ℤ)) → slice_get rows i ≡ Some row
+pub rows_more : (driving : Side) (directed : Bool) (placed : List PointRow) (rows : List EdgeRow) (i : ℕ) (row : EdgeRow) (before after : List (LinkOf ℤ))
+    → slice_get rows i ≡ Some row
     → before ≡ parts_of_rows driving directed placed (take i rows) → after ≡ before ++ parts_of_row driving directed row (points_of row.id placed)
     → after ≡ parts_of_rows driving directed placed (take (i + 1) rows)
 unfolding parts_of_rows

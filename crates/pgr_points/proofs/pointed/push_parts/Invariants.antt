@@ -8,7 +8,8 @@ abbrev pub invariant-loop-point : goal.invariant-loop-point
 invariant-loop-point l = record {
   -- the parts so far and those from the stop on are all
   parts : l.links.items ++ parts l.row.id l.direction
-      (l.stop ∷ (map (stop_at l.cost) (seen_of l.sight.driving l.sight.directed l.direction (drop l.point-index l.points)) ++ record { vertex = l.row.target; offset = l.cost } ∷ []))
+      (l.stop ∷ (map (stop_at l.cost) (seen_of l.sight.driving l.sight.directed l.direction (drop l.point-index l.points)) ++ record { vertex = l.row.target; offset = l.cost }
+      ∷ []))
       ≡ l.fn.links.items ++ parts l.row.id l.direction (stops l.row l.cost (seen_of l.sight.driving l.sight.directed l.direction l.points));
   -- the stop lies within the link, and not behind any point that is ahead
   within : l.stop.offset ≤ l.cost;

@@ -15,7 +15,8 @@ returns-in_ok-push_sense-4 c =
     undirected_row c.args.sight.driving c.args.row c.points_of-points.result.now c.args.links.now.items _ _ c.args.sight.directed _ _ c.if-not-sight.true
     (simp to_z-of_z at c.in_ok-push_sense.ensures) (simp to_z-of_z at c.in_ok-push_sense-2.ensures)
     (simp to_z-of_z at c.in_ok-push_sense-3.ensures) (simp to_z-of_z at c.in_ok-push_sense-4.ensures)
-    ∙ ap (λ (run : List PointRow). c.args.links.now.items ++ parts_of_row c.args.sight.driving c.args.sight.directed c.args.row run) (simp to_z-of_z at c.points_of-points.ensures.same)
+    ∙ ap (λ (run : List PointRow). c.args.links.now.items ++ parts_of_row c.args.sight.driving c.args.sight.directed c.args.row run) (simp to_z-of_z at
+    c.points_of-points.ensures.same)
 
 pub returns-else-not-sight : goal.returns-else-not-sight
 returns-else-not-sight c =
@@ -24,4 +25,5 @@ returns-else-not-sight c =
     let reverse_fits : SFits w64 c.args.row.reverse_cost = search rules in
     directed_row c.args.sight.driving c.args.row c.points_of-points.result.now c.args.links.now.items _ _ c.args.sight.directed c.if-not-sight.false
     (simp to_z-of_z at c.in_ok-push_sense.ensures) (simp to_z-of_z at c.in_ok-push_sense-2.ensures)
-    ∙ ap (λ (run : List PointRow). c.args.links.now.items ++ parts_of_row c.args.sight.driving c.args.sight.directed c.args.row run) (simp to_z-of_z at c.points_of-points.ensures.same)
+    ∙ ap (λ (run : List PointRow). c.args.links.now.items ++ parts_of_row c.args.sight.driving c.args.sight.directed c.args.row run) (simp to_z-of_z at
+    c.points_of-points.ensures.same)
