@@ -8,3 +8,4 @@ pub mod Drafts
 pub mod WellFormed
 pub mod FirstFault
 pub mod FaultText
+pub mod Factors
