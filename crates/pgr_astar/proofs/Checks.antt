@@ -34,7 +34,7 @@ module _ (values : List ℕ) where
   Unbroken links = (link : LinkOf ℕ) → Contains links link → Breaks (value_at values) link → ⊥
 
   abbrev IsFirst : List (LinkOf ℕ) → LinkOf ℕ → Type 0
-  IsFirst links link = IsFirstBreaking nat_cmp (Contains links) (value_at values) link
+  IsFirst links link = IsFirstBreaking nat_cmp (Contains links) (Breaks (value_at values)) link
 
   -- what is left after a link, that breaks the estimate or not, and after the others
   abbrev after_link : LinkOf ℕ → List (LinkOf ℕ) → Bool → Check
@@ -49,7 +49,7 @@ module _ (values : List ℕ) where
   first_here : (link : LinkOf ℕ) (links : List (LinkOf ℕ)) → IsStrictlyRising (step_cmp nat_cmp) (link ∷ links) → ((other : LinkOf ℕ) → Contains (link ∷ links) other → other.from ≡ link.from) → breaks values link ≡ true → IsFirst (link ∷ links) link
   first_here link links rise from e = record {
     has = (0, omega arith, refl);
-    breaks = ltb-true (value_at values link.from + link.cost) (value_at values link.to) e;
+    broken = ltb-true (value_at values link.from + link.cost) (value_at values link.to) e;
     first = first;
   }
     where
@@ -66,7 +66,7 @@ module _ (values : List ℕ) where
       none_later other (suc k, below, is) b = none other (k, omega arith, is) b
   later link links (Some found) e first = record {
     has = (suc first.has.0, omega (arith, first.has.1), first.has.2);
-    breaks = first.breaks;
+    broken = first.broken;
     first = before;
   }
     where
@@ -121,10 +121,10 @@ module _ (values : List ℕ) where
     out_of link (below, has) = let ends = (lawful.at link.to below).in_ends link has in (ends.1, (lawful.both link ends.1 below).1 has)
 
     -- where no link out of a vertex below n breaks the estimate, the first of those out of n is the first of all
-    pub first_of_all : (n : ℕ) → n < size → ((u : ℕ) → u < n → Unbroken (outs u)) → (link : LinkOf ℕ) → IsFirst (outs n) link → IsFirstBreaking nat_cmp (IsLinkOf size ins) (value_at values) link
+    pub first_of_all : (n : ℕ) → n < size → ((u : ℕ) → u < n → Unbroken (outs u)) → (link : LinkOf ℕ) → IsFirst (outs n) link → IsFirstBreaking nat_cmp (IsLinkOf size ins) (Breaks (value_at values)) link
     first_of_all n below earlier link f = record {
       has = (ends.1, (lawful.both link (subst (λ x. x < size) (sym ends.0) below) ends.1).0 (subst (λ x. Contains (outs x) link) (sym ends.0) f.has));
-      breaks = f.breaks;
+      broken = f.broken;
       first = λ other has b differs. before other (out_of other has) b differs (cases_order other.from n);
     }
       where

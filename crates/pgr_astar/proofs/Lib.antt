@@ -1,2 +1,5 @@
 mod Checks
 mod OneTarget
+mod PointLemmas
+mod EstimateLemmas
+mod Examples

@@ -13,8 +13,8 @@ value_at values v = slice_index_or values v 0
 abbrev pub Breaks : {V : Type 0} → (V → ℕ) → LinkOf V → Type 0
 Breaks values link = values link.from + link.cost < values link.to
 
--- the first of the links that break an estimate, by where they begin, then edge, cost and where they lead
-pub record IsFirstBreaking {V : Type 0} (vertex_cmp : V → V → Ordering) (Has : LinkOf V → Type 0) (values : V → ℕ) (link : LinkOf V) : Type 0 where
+-- the first of the links that break what they are to keep, by where they begin, then edge, cost and where they lead
+pub record IsFirstBreaking {V : Type 0} (vertex_cmp : V → V → Ordering) (Has Broken : LinkOf V → Type 0) (link : LinkOf V) : Type 0 where
   pub has : Has link
-  pub breaks : Breaks values link
-  pub first : (other : LinkOf V) → Has other → Breaks values other → other ≢ link → link_cmp vertex_cmp link other ≡ Less
+  pub broken : Broken link
+  pub first : (other : LinkOf V) → Has other → Broken other → other ≢ link → link_cmp vertex_cmp link other ≡ Less

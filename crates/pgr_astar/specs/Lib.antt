@@ -1,2 +1,5 @@
+pub mod Points
+pub mod Estimate
 pub mod Breaking
 pub mod Checking
+pub mod Pointing

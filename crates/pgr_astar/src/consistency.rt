@@ -16,7 +16,7 @@ use pgr_walks::{Graph, Link, LinkVisitor, Next};
 /// graph, which need not fit. All links are looked at, also those that no walk from the start comes to. It takes no memory.
 pub fn first_inconsistent<G: Graph>(g: &G, p: &Potential) -> Option<Link>
     requires { length p.now ≡ G.count g.now }
-    ensures first { IfSome result (IsFirstBreaking nat_cmp (LinksOf G.Graph g.now) (value_at p.now)) }
+    ensures first { IfSome result (IsFirstBreaking nat_cmp (LinksOf G.Graph g.now) (Breaks (value_at p.now))) }
     ensures none { IfNone result (IsConsistent (LinksOf G.Graph g.now) (value_at p.now)) }
 {
     for v in 0..g.size() {
@@ -31,7 +31,7 @@ pub fn first_inconsistent<G: Graph>(g: &G, p: &Potential) -> Option<Link>
 fn first_from<G: Graph>(g: &G, v: u32, p: &Potential) -> Option<Link>
     requires vertex { v < G.count g.now }
     requires size { length p.now ≡ G.count g.now }
-    ensures first { IfSome result (IsFirstBreaking nat_cmp (Contains (G.outs g.now v)) (value_at p.now)) }
+    ensures first { IfSome result (IsFirstBreaking nat_cmp (Contains (G.outs g.now v)) (Breaks (value_at p.now))) }
     ensures none { IfNone result ((link : LinkOf ℕ) → Contains (G.outs g.now v) link → Breaks (value_at p.now) link → ⊥) }
 {
     let mut checker = Checker {

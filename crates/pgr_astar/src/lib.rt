@@ -10,7 +10,11 @@
 
 mod astar;
 mod consistency;
+mod point;
+mod points;
 mod potential;
+#[cfg(test)]
+mod tests;
 
 pub use astar::{AstarRoom, astar_route};
 pub use consistency::first_inconsistent;

@@ -1,7 +1,18 @@
-ghost use Rattle.std.specs.Prelude.{◌≡◌, ◌<◌, ◌^◌, ℕ, IfOk, length, replicate, slice_index_or};
+ghost use Rattle.std.specs.Prelude.{◌≡◌, ◌<◌, ◌^◌, ℕ, All, Contains, IfOk, IfSome, IsSomeAnd, length, replicate, slice_index_or};
+ghost use Rattle.pgr_words.specs.Factors.{IsFactor};
+ghost use Rattle.pgr_table.specs.Edges.{HasPlaces, IsPlace};
+ghost use Rattle.pgr_numbers.specs.Names.{id_at};
+ghost use Rattle.pgr_astar.specs.Points.{IsInPlane, IsNamedIn};
+ghost use Rattle.pgr_astar.specs.Estimate.{IsEstimate};
+ghost use Rattle.pgr_astar.specs.Pointing.{AreEstimates};
 
+use crate::point::{Point, estimate_between};
+use crate::points::{point_at, points_of};
+use pgr_numbers::Names;
 use pgr_outside::NoMemory;
 use pgr_search::Estimate;
+use pgr_table::EdgeTable;
+use pgr_words::{Factor, Heuristic};
 use std::alloc::Global;
 use std::marker::Model;
 
@@ -24,6 +35,39 @@ impl Model for Potential {
 }
 
 impl Potential {
+    /// The estimates for a start: of each name the distance of its point from that of the start by a heuristic, times a
+    /// factor, rounded down.
+    ///
+    /// The table was read with places, each name is the source or target of some row, and the start is one of the names. A
+    /// name lies where the first row puts it that names it, as source before as target. At the start the estimate is 0.
+    /// `NoMemory` may come at any call. Work, not proved: two look-ups for each row.
+    pub fn make(
+        alloc: Global,
+        table: &EdgeTable,
+        names: &Names,
+        start: i64,
+        heuristic: Heuristic,
+        factor: Factor,
+    ) -> Result<Potential, NoMemory>
+        requires places { HasPlaces table.now }
+        requires in_plane { All (λ row. IfSome row.place IsPlace) table.now }
+        requires named { All (IsNamedIn table.now) names.now }
+        requires start { Contains names.now start }
+        requires factor { IsFactor factor }
+        ensures size { IfOk result (λ potential. length potential ≡ length names.now) }
+        ensures estimates { IfOk result (λ potential. (v : ℕ) → v < length names.now
+            → IsEstimate table.now start heuristic factor (id_at names.now v) (slice_index_or potential v 0)) }
+        ensures zero { IfOk result (λ potential. (v : ℕ) → v < length names.now → id_at names.now v ≡ start
+            → slice_index_or potential v 0 ≡ 0) }
+    {
+        let points = points_of(alloc, table, names)?;
+        let number = names.number(start).unwrap();
+        let points = points.as_slice();
+        let from = point_at(points, number).unwrap();
+        let values = estimates_from(alloc, heuristic, factor, from, points)?;
+        Ok(Potential { values })
+    }
+
     /// The estimate 0 of each of `size` vertices, which is consistent over every graph.
     ///
     /// `NoMemory` may come at any call.
@@ -49,6 +93,28 @@ impl Potential {
     {
         let _ = &self.values;
     }
+}
+
+/// The estimates of points, each from the same point.
+fn estimates_from(
+    alloc: Global,
+    heuristic: Heuristic,
+    factor: Factor,
+    from: Point,
+    points: &[Option<Point>],
+) -> Result<Vec<u128>, NoMemory>
+    requires factor { IsFactor factor }
+    requires from { IsInPlane from }
+    requires points { All (λ point. IsSomeAnd point IsInPlane) points.now }
+    ensures small { IfOk result (λ values. All (λ value. value < 2 ^ 127) values.items) }
+    ensures estimates { IfOk result (λ values. AreEstimates heuristic factor from points.now values.items) }
+{
+    let mut values = Vec::with_capacity(alloc, points.len())?;
+    for point in points {
+        let to = point.unwrap();
+        values.push(estimate_between(heuristic, factor, from, to))?;
+    }
+    Ok(values)
 }
 
 impl Estimate for Potential {
