@@ -173,3 +173,15 @@ pub one_row_more : (rows : List EdgeRow) (names : List ℤ) (i : ℕ) (row : Edg
 one_row_more rows names i row points after places e below are size notes =
     let longer : take (i + 1) rows ≡ take i rows ++ row ∷ [] = take_more rows i row below ∙ ap (λ r. take i rows ++ r ∷ []) (get_or_from_slice_get rows i row row e) in
     subst (λ xs. ArePoints xs names after) (sym longer) (points_more (take i rows) names points after row (All-take (λ (r : EdgeRow). IsSome r.place) i rows places) are size notes)
+
+-- two names that are the ends of a row
+pub ends_named : (rows : List EdgeRow) (names : List ℤ) (row : EdgeRow) → slice_get rows 0 ≡ Some row → 0 < length rows → row.source ≡ pos 5 → row.target ≡ pos 7 → length names ≡ 2 → id_at names 0 ≡ pos 5 → id_at names 1 ≡ pos 7 → All (IsNamedIn rows) names
+ends_named rows names row there below source target two first second = at
+  where
+    has : Contains rows row
+    has = (0, below, get_or_from_slice_get rows 0 row row there)
+
+    at : (k : ℕ) (d : ℤ) → k < length names → IsNamedIn rows (get_or names k d)
+    at zero d h = (row, has, inl (source ∙ sym first ∙ get_or_default names 0 (pos 0) d h))
+    at (suc zero) d h = (row, has, inr (target ∙ sym second ∙ get_or_default names 1 (pos 0) d h))
+    at (suc (suc k)) d h = absurd (omega (arith, h, two))

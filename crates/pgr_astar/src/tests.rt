@@ -5,8 +5,11 @@ ghost use Rattle.pgr_walks.specs.ListGraph.{HasEndsBelow};
 ghost use Rattle.pgr_walks.specs.Walk.{IsWithoutRepeats};
 
 use super::{AstarRoom, Potential, astar_route, first_inconsistent};
+use pgr_numbers::{Names, names_are_few};
 use pgr_outside::NoMemory;
-use pgr_walks::{Graph, Link, RowGraph, small_costs_fit};
+use pgr_table::read_edges;
+use pgr_walks::{Graph, Link, NamedLink, RowGraph, small_costs_fit};
+use pgr_words::{Factor, Heuristic};
 use std::alloc::Global;
 use std::test::Fail;
 
@@ -50,6 +53,32 @@ fn graph_of_four(alloc: Global, links: Vec<Link>) -> Result<RowGraph, NoMemory>
     let graph = RowGraph::from_links(alloc, 4, links)?;
     small_costs_fit(&graph);
     Ok(graph)
+}
+
+#[test]
+fn estimates_are_distances_from_the_start_times_the_factor(rt: HostRuntime) -> Result<(), Fail> {
+    let bytes = b"id,source,target,cost,x1,y1,x2,y2\n1,5,7,3,0,0,3,-4\n";
+    let table = read_edges(rt.alloc(), bytes, true)?;
+    assert!(rt; table.len() == 1);
+    let row = table.row(0);
+    assert!(rt; row.source == 5);
+    assert!(rt; row.target == 7);
+    let link = NamedLink {
+        from: 5,
+        edge: 1,
+        cost: 3,
+        to: 7,
+    };
+    names_are_few(&[link]);
+    let names = Names::of(rt.alloc(), &[link])?;
+    assert!(rt; names.len() == 2);
+    assert!(rt; names.name(0) == 5);
+    assert!(rt; names.name(1) == 7);
+    let factor = Factor { over: 3, under: 2 };
+    let potential = Potential::make(rt.alloc(), &table, &names, 5, Heuristic::H5, factor)?;
+    assert_eq!(rt; potential.value(0), 0);
+    assert_eq!(rt; potential.value(1), 10);
+    Ok(())
 }
 
 #[test]
