@@ -1,7 +1,9 @@
 -- Small cases of the links of a row, computed.
-use Rattle.std.proofs.Common.{◌≡◌, ℤ, pos, ℕ, refl, true, false, inl, inr}
-use Rattle.std.specs.Prelude.{negsuc, None}
+use Rattle.std.proofs.Common.{◌≡◌, ℤ, pos, ℕ, List, [], ◌∷◌, refl, true, false, inl, inr}
+use Rattle.std.specs.Prelude.{negsuc, None, Some}
+use Rattle.pgr_table.specs.declared.fault.TableFault.TheVariants.{CostSum}
 use Rattle.pgr_table.specs.declared.row.EdgeRow.{EdgeRow}
+use Rattle.pgr_graph.specs.Restricted.{links_cost, restricted_fault}
 use Rattle.pgr_graph.specs.Links.{HasSense, IsLinkOfRow, link_along}
 use Rattle.pgr_graph.specs.declared.links.Direction.TheVariants.{Forward, Backward}
 
@@ -27,3 +29,29 @@ the_opposite_stands_too = (Backward, inl refl, refl)
 -- both directions of a self loop with equal costs are one link
 one_link_of_a_loop : link_along loop Forward 4 ≡ link_along loop Backward 4
 one_link_of_a_loop = refl
+
+-- what the links of a row cost, each once: a self loop with equal costs has one link, an edge with equal costs two
+abbrev both_ways : EdgeRow
+both_ways = record { id = pos 7; source = pos 1; target = pos 2; cost = pos 4; reverse_cost = pos 4; place = None }
+
+a_loop_counts_once : links_cost false loop ≡ 4
+a_loop_counts_once = refl
+
+equal_costs_give_two_links : links_cost false both_ways ≡ 8
+equal_costs_give_two_links = refl
+
+each_way_counts : links_cost true both_ways ≡ 8
+each_way_counts = refl
+
+different_costs_give_four_links : links_cost false (record both_ways { reverse_cost = pos 5 }) ≡ 18
+different_costs_give_four_links = refl
+
+-- restrictions: the first list that isn't empty and takes the sum too far, by its record
+abbrev dear : EdgeRow
+dear = record { id = pos 1; source = pos 1; target = pos 2; cost = pos 4611686018427387903; reverse_cost = negsuc 0; place = None }
+
+one_list_fits : restricted_fault (dear ∷ []) true ([] ∷ (pos 7 ∷ []) ∷ [] ∷ []) ≡ None
+one_list_fits = refl
+
+two_lists_are_too_many : restricted_fault (dear ∷ []) true ((pos 7 ∷ []) ∷ [] ∷ (pos 8 ∷ []) ∷ (pos 9 ∷ []) ∷ []) ≡ Some (CostSum 4)
+two_lists_are_too_many = refl

@@ -12,3 +12,4 @@ pub use Rattle.pgr_walks.specs.LinksOf
 pub use Rattle.pgr_walks.specs.Reversed
 pub use Rattle.pgr_walks.specs.Without
 pub use Rattle.pgr_walks.specs.Reaches
+pub mod Restricted

@@ -2,14 +2,17 @@
 //!
 //! [`links_of`] lists the links of an edge table between vertex ids, in the directed graph or the undirected one;
 //! walks over them, graphs and visitors are those of `pgr_walks`, whose types, laws and definitions this crate passes on.
+//! [`restricted_sum`] judges restrictions by what all links cost.
 //! Proved: the list has exactly the links of the table, each once, in order (`links_of`); every link and every
-//! loopless route of a table costs at most 2^63 - 1 (`links_fit`). Not proved: time.
+//! loopless route of a table costs at most 2^63 - 1 (`links_fit`); what all links cost is one number, however they are
+//! listed (`links_have_one_cost`). Not proved: time.
 #![tactic(auto)]
 
 mod laws;
 mod links;
+mod restricted;
 
-pub use laws::links_fit;
+pub use laws::{links_fit, links_have_one_cost};
 pub use links::{Direction, links_of};
 pub use pgr_walks::{
     Adjacency, Graph, Label, Link, LinkOf, LinkVisitor, ListGraph, NamedLink, Next, Reversed,
@@ -19,3 +22,4 @@ pub use pgr_walks::{
     one_walk_precedes_another, one_walk_to_targets_is_least, show, small_costs_fit,
     targets_have_labels_of_zero,
 };
+pub use restricted::restricted_sum;
