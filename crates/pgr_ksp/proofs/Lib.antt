@@ -1,0 +1,9 @@
+pub mod Alike
+pub mod Prefixes
+pub mod Tails
+pub mod Splitting
+pub mod Sums
+pub mod Giving
+pub mod Choosing
+pub mod Costs
+pub mod Places

@@ -1,0 +1,5 @@
+pub mod Routes
+pub mod Enumeration
+pub mod Classes
+pub mod FromStart
+pub mod Sound
