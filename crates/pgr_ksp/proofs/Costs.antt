@@ -1,13 +1,15 @@
 -- The least costs from the start are a consistent estimate.
-use Rattle.std.proofs.Common.{◌≡◌, ℕ, zero, suc, ◌+◌, ◌-◌, ◌<◌, ◌≤◌, ◌^◌, List, [], ◌∷◌, ◌++◌, Option, Some, None, refl, sym, ap, subst, ◌∙◌, arith, ◌⊎◌, inl, inr, lit≤}
+use Rattle.std.proofs.Common.{◌≡◌, ◌≢◌, ℕ, Bool, length, take, drop, zero, suc, ◌+◌, ◌-◌, ◌<◌, ◌≤◌, ◌^◌, List, [], ◌∷◌, ◌++◌, Option, Some, None, refl, sym, ap, subst, ◌∙◌, arith, ◌⊎◌, inl, inr}
 use Rattle.std.specs.Prelude.{slice_index_or}
+use Rattle.std.proofs.lemmas.List.{length-append, length-take-le}
 use Rattle.pgr_walks.specs.declared.link.LinkOf.{LinkOf}
 use Rattle.pgr_walks.specs.declared.label.Label.{Label}
 use Rattle.pgr_walks.specs.Walk.{IsWalk, cost_of}
-use Rattle.pgr_walks.specs.Graph.{greatest}
+use Rattle.pgr_walks.specs.Graph.{greatest, Fits}
 use Rattle.pgr_walks.specs.Label.{AtMost, IsLabelFrom, label_of}
 use Rattle.pgr_search.specs.Estimates.{IsConsistent}
 use Rattle.pgr_ksp.specs.FromStart.{far, cost_or_far, cost_beyond}
+use Rattle.pgr_ksp.specs.Sound.{CanSearch}
 use Rattle.pgr_ksp.proofs.Alike.{walk-append, cost-append}
 
 at_most_cost : (a b : Label) → AtMost a b → a.cost ≤ b.cost
@@ -37,3 +39,39 @@ module _ (Has : LinkOf ℕ → Type 0) (s : ℕ) where
 pub cost_small : (o : Option Label) → ((label : Label) → o ≡ Some label → label.cost ≤ greatest) → cost_or_far o - 0 < 2 ^ 127
 cost_small None h = omega arith
 cost_small (Some label) h = omega (arith, h label refl)
+
+-- marks that were written over all of others are as many
+pub written_length : (n : ℕ) (new old : List Bool) → n ≡ length old → length new ≡ length old → length (take n (new ++ drop (length new) old)) ≡ length old
+written_length n new old is same =
+    omega (arith, is, same, length-take-le n (new ++ drop (length new) old) (omega (arith, is, same, length-append new (drop (length new) old))))
+
+-- what a search needs holds again with other marks and labels, for as many vertices
+pub can_again : (size : ℕ) (Has : LinkOf ℕ → Type 0) (s t : ℕ) (gone marks : List Bool) (costs room labels : List (Option Label)) → CanSearch size Has s t gone costs room → length marks ≡ length gone → length labels ≡ length room
+    → CanSearch size Has s t marks costs labels
+can_again size Has s t gone marks costs room labels can same_marks same_labels = record {
+  fits = can.fits;
+  differ = can.differ;
+  s_below = can.s_below;
+  t_below = can.t_below;
+  marks = same_marks ∙ can.marks;
+  costs_size = can.costs_size;
+  room_size = same_labels ∙ can.room_size;
+  small = can.small;
+  consistent = can.consistent;
+}
+
+-- it holds at first, by the least costs from the start
+pub can_start : (size : ℕ) (Has : LinkOf ℕ → Type 0) (s t : ℕ) (gone : List Bool) (costs room : List (Option Label)) → Fits Has → s ≢ t → s < size → t < size → length gone ≡ size → length costs ≡ size → length room ≡ size
+    → ((link : LinkOf ℕ) → Has link → (link.from < size) × (link.to < size)) → ((v : ℕ) → v < size → IsLabelFrom Has s v (slice_index_or costs v None))
+    → ((v : ℕ) (label : Label) → v < size → slice_index_or costs v None ≡ Some label → label.cost ≤ greatest) → CanSearch size Has s t gone costs room
+can_start size Has s t gone costs room fits differ s_below t_below marks costs_size room_size below is_label small = record {
+  fits = fits;
+  differ = differ;
+  s_below = s_below;
+  t_below = t_below;
+  marks = marks;
+  costs_size = costs_size;
+  room_size = room_size;
+  small = λ v h. cost_small (slice_index_or costs v None) (λ label e. small v label h e);
+  consistent = costs_consistent Has s size costs below is_label small;
+}

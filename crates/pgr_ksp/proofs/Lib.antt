@@ -7,3 +7,4 @@ pub mod Giving
 pub mod Choosing
 pub mod Costs
 pub mod Places
+pub mod Stepping

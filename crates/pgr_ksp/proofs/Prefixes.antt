@@ -56,9 +56,12 @@ goes_step [] taboo last (link ∷ route) free = by (is_link link last) refl (hol
     by b e c f = ap (λ x. one (not x)) f ∙ (cases b c e f ∙ sym (ap (λ x. one (not x) + one (cond (is_link link last) (goes_on [] [] route) false)) (holds-push taboo last link)
         ∙ (λ i. one (not (f i || e i)) + one (cond (e i) (goes_on [] [] route) false))))
       where
+        free_one : one (goes_on [] [] route) ≡ 1
+        free_one = ap one (goes_freely route)
+
         cases : (b c : Bool) → is_link link last ≡ b → holds taboo link ≡ c → one (not c) ≡ one (not (c || b)) + one (cond b (goes_on [] [] route) false)
         cases true true e f = absurd (both_ways (holds taboo last) free (ap (holds taboo) (sym (link_is link last e)) ∙ f))
-        cases true false e f = sym (ap one (goes_freely route))
+        cases true false e f = omega (arith, free_one)
         cases false true e f = refl
         cases false false e f = refl
 goes_step (first ∷ prefix) taboo last [] free = refl

@@ -2,25 +2,13 @@
 use Rattle.std.proofs.Common.{◌≡◌, ◌≢◌, ℕ, zero, suc, ◌+◌, ◌<◌, ◌≤◌, ◌==◌, Bool, true, false, not, cond, List, [], ◌∷◌, ◌++◌, length, take, drop, map, get_or, eqb, refl, sym, ap, subst, ◌∙◌, arith}
 use Rattle.std.specs.Prelude.{All}
 use Rattle.std.proofs.lemmas.Bool.{both_ways, not-true, eqb-true, eq-eqb, ne_eqb, false_from_ne_true}
-use Rattle.std.proofs.lemmas.List.{append-nil, take-append-drop}
+use Rattle.std.proofs.lemmas.List.{append-nil, take-append-drop, take_more, drop_more}
 use Rattle.pgr_walks.specs.declared.link.LinkOf.{LinkOf}
 use Rattle.pgr_walks.specs.Walk.{IsWalk, IsWithoutRepeats, IsLooplessRoute, vertices_of, cost_of}
 use Rattle.pgr_walks.specs.ListGraph.{holds}
 use Rattle.pgr_ksp.specs.Classes.{is_same, goes_on, among, starts, one, taboo_at}
 use Rattle.pgr_ksp.proofs.Alike.{Apart, AreApart, apart_from, apart_to, apart_split, apart_join, vertices-append, walk-append, walk-behind, or_false, end_among, same_is, same_itself, link_itself}
 use Rattle.pgr_ksp.proofs.Prefixes.{goes_split, goes_step, goes_freely}
-
--- the links before a place and the link there
-pub take-push : (links : List (LinkOf ℕ)) (i : ℕ) (d : LinkOf ℕ) → i < length links → take (i + 1) links ≡ take i links ++ get_or links i d ∷ []
-take-push [] i d h = absurd (omega arith)
-take-push (x ∷ links) zero d h = refl
-take-push (x ∷ links) (suc i) d h = ap (λ rest. x ∷ rest) (take-push links i d (omega arith))
-
--- what is left from a place on
-pub drop-open : (links : List (LinkOf ℕ)) (i : ℕ) (d : LinkOf ℕ) → i < length links → drop i links ≡ get_or links i d ∷ drop (i + 1) links
-drop-open [] i d h = absurd (omega arith)
-drop-open (x ∷ links) zero d h = refl
-drop-open (x ∷ links) (suc i) d h = drop-open links i d (omega arith)
 
 -- the links before a place are a walk to where the link there begins
 pub walk-take : (Has : LinkOf ℕ → Type 0) (s t : ℕ) (links : List (LinkOf ℕ)) (i : ℕ) (d : LinkOf ℕ) → i < length links → IsWalk Has s links t → IsWalk Has s (take i links) (get_or links i d).from
@@ -38,7 +26,7 @@ pub place_of : (Has : LinkOf ℕ → Type 0) (s t : ℕ) (links : List (LinkOf �
 place_of Has s t links i d h route =
     let v = (get_or links i d).from in
     let walk = walk-take Has s t links i d h route.is_walk in
-    let whole : links ≡ take i links ++ get_or links i d ∷ drop (i + 1) links = sym (take-append-drop i links) ∙ ap (λ rest. take i links ++ rest) (drop-open links i d h) in
+    let whole : links ≡ take i links ++ get_or links i d ∷ drop (i + 1) links = sym (take-append-drop i links) ∙ ap (λ rest. take i links ++ rest) (drop_more links i d h) in
     let P : List (LinkOf ℕ) → Type 0 = λ ls. IsLooplessRoute Has s ls t in
     let again = subst P whole route in
     let split = apart_split (starts (take i links)) (vertices_of v (get_or links i d ∷ drop (i + 1) links))
@@ -103,4 +91,4 @@ split_step links kept taboo i d route within from inside own =
     let none : taboo_at kept taboo (i + 1) ≡ [] = ap (λ b. cond b taboo []) (ne_eqb (i + 1) kept (λ e. absurd (omega arith))) in
     goes_step (take i links) (taboo_at kept taboo i) (get_or links i d) route (place_free links kept taboo i d within own)
     ∙ ap (λ n. one (goes_on (take i links) (taboo_at kept taboo i ++ get_or links i d ∷ []) route) + n)
-        ((λ k. one (goes_on (sym (take-push links i d inside) k) (sym none k) route)))
+        ((λ k. one (goes_on (sym (take_more links i d inside) k) (sym none k) route)))

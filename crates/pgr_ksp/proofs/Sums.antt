@@ -10,35 +10,37 @@ count_cons p x xs = sum_by-cons (λ y. cond (p y) 1 0) x xs
 later : {X : Type 0} (y : X) (xs : List X) (x : X) → Contains xs x → Contains (y ∷ xs) x
 later y xs x h = (suc h.0, omega (arith, h.1), h.2)
 
+one_at : (b : Bool) → b ≡ true → ◌≡◌ {A = ℕ} (cond b 1 0) 1
+one_at b e = ap (λ c. cond c 1 0) e
+
+zero_at : (b : Bool) → b ≡ false → ◌≡◌ {A = ℕ} (cond b 1 0) 0
+zero_at b e = ap (λ c. cond c 1 0) e
+
 -- some member passes where some are counted
 pub counted : {X : Type 0} (p : X → Bool) (xs : List X) → 0 < count_by p xs → (x : X) × Contains xs x × (p x ≡ true)
 counted p [] h = absurd (omega arith)
-counted p (x ∷ xs) h = by (p x) refl
+counted {X} p (x ∷ xs) h = by (p x) refl (λ some. counted p xs some)
   where
-    by : (b : Bool) → p x ≡ b → (y : _) × Contains (x ∷ xs) y × (p y ≡ true)
-    by true e = (x, (0, omega arith, refl), e)
-    by false e =
-        let rest = counted p xs (omega (arith, count_cons p x xs, ap (λ b. cond b 1 0) e)) in
-        (rest.0, later x xs rest.0 rest.1, rest.2)
+    by : (b : Bool) → p x ≡ b → (0 < count_by p xs → (y : X) × Contains xs y × (p y ≡ true)) → (y : X) × Contains (x ∷ xs) y × (p y ≡ true)
+    by true e rest = (x, (0, omega arith, refl), e)
+    by false e rest =
+        let found = rest (omega (arith, h, count_cons p x xs, zero_at (p x) e)) in
+        (found.0, later x xs found.0 found.1, found.2)
 
 -- none is counted where none passes
 pub none_counted : {X : Type 0} (p : X → Bool) (xs : List X) → ((x : X) → Contains xs x → p x ≡ true → ⊥) → count_by p xs ≡ 0
 none_counted p [] none = refl
-none_counted p (x ∷ xs) none = by (p x) refl
+none_counted p (x ∷ xs) none = by (p x) refl (none_counted p xs (λ y has. none y (later x xs y has)))
   where
-    by : (b : Bool) → p x ≡ b → count_by p (x ∷ xs) ≡ 0
-    by true e = absurd (none x (0, omega arith, refl) e)
-    by false e =
-        let rest = none_counted p xs (λ y has. none y (later x xs y has)) in
-        omega (arith, count_cons p x xs, ap (λ b. cond b 1 0) e, rest)
+    by : (b : Bool) → p x ≡ b → count_by p xs ≡ 0 → count_by p (x ∷ xs) ≡ 0
+    by true e rest = absurd (none x (0, omega arith, refl) e)
+    by false e rest = omega (arith, count_cons p x xs, zero_at (p x) e, rest)
 
 -- one that passes is counted
 pub counts : {X : Type 0} (p : X → Bool) (xs : List X) (x : X) → Contains xs x → p x ≡ true → 0 < count_by p xs
 counts p [] x has e = absurd (omega (arith, has.1))
-counts p (y ∷ ys) x has e = at has.0 has.1 has.2
+counts p (y ∷ ys) x has e = at has.0 has.1 has.2 (λ later. counts p ys x later e)
   where
-    at : (k : ℕ) → k < length (y ∷ ys) → slice_index_or (y ∷ ys) k x ≡ x → 0 < count_by p (y ∷ ys)
-    at zero h same = omega (arith, count_cons p y ys, ap (λ b. cond b 1 0) (ap p same ∙ e))
-    at (suc k) h same =
-        let rest = counts p ys x (k, omega (arith, h), same) e in
-        omega (arith, count_cons p y ys, rest)
+    at : (k : ℕ) → k < length (y ∷ ys) → slice_index_or (y ∷ ys) k x ≡ x → (Contains ys x → 0 < count_by p ys) → 0 < count_by p (y ∷ ys)
+    at zero h same rest = omega (arith, count_cons p y ys, one_at (p y) (ap p same ∙ e))
+    at (suc k) h same rest = omega (arith, count_cons p y ys, rest (k, omega (arith, h), same))

@@ -1,17 +1,18 @@
 -- The routes of a class and the walks of the graph without its front and its taboo links: each is the other behind the front.
-use Rattle.std.proofs.Common.{◌≡◌, ◌≢◌, ℕ, zero, suc, ◌+◌, ◌<◌, ◌≤◌, ◌==◌, Bool, true, false, not, cond, List, [], ◌∷◌, ◌++◌, length, map, eqb, refl, sym, ap, subst, ◌∙◌, arith}
+use Rattle.std.proofs.Common.{◌≡◌, ◌≢◌, ℕ, zero, suc, ◌+◌, ◌<◌, ◌≤◌, ◌==◌, Bool, true, false, not, cond, List, [], ◌∷◌, ◌++◌, length, take, map, get_or, eqb, refl, sym, ap, subst, ◌∙◌, arith, add-zero, ◌↔◌}
 use Rattle.std.specs.Prelude.{Contains, All, slice_index_or}
 use Rattle.std.specs.Ordering.{nat_cmp}
 use Rattle.std.proofs.lemmas.Bool.{both_ways, not-true, not_from_false, eqb-true, false_from_ne_true, eq-eqb}
-use Rattle.std.proofs.lemmas.List.{append-nil}
-use Rattle.std.proofs.lemmas.List.Elements.{All-nil, All-cons, All-head, All-tail, All-contains}
+use Rattle.std.proofs.lemmas.List.{append-nil, length-append, get_or-append-add}
+use Rattle.std.proofs.lemmas.List.Elements.{All-nil, All-cons, All-head, All-tail, All-contains, All-weaker}
 use Rattle.pgr_walks.specs.declared.link.LinkOf.{LinkOf}
 use Rattle.pgr_walks.specs.Walk.{IsWalk, IsWithoutRepeats, IsLooplessRoute, vertices_of, cost_of}
 use Rattle.pgr_walks.specs.RouteOrder.{Precedes, IsLeast}
 use Rattle.pgr_walks.specs.Without.{IsSpared, IsMarked}
+use Rattle.pgr_walks.specs.Label.{LeadsTo}
 use Rattle.pgr_walks.specs.ListGraph.{holds}
 use Rattle.pgr_walks.specs.ListGraphLaws.{holds_from_Contains, Contains-from_holds}
-use Rattle.pgr_ksp.specs.Classes.{goes_on, among, starts, MarksStarts, IsMember}
+use Rattle.pgr_ksp.specs.Classes.{goes_on, among, starts, MarksStarts, IsMember, IsLeastOfClass}
 use Rattle.pgr_ksp.proofs.Alike.{Apart, AreApart, apart_from, apart_to, apart_split, apart_join, vertices-append, walk-append, walk-behind, or_false}
 use Rattle.pgr_ksp.proofs.Prefixes.{goes_split, goes_join, front_cmp}
 
@@ -131,3 +132,45 @@ module _ (Has : LinkOf ℕ → Type 0) (s t v : ℕ) (gone : List Bool) (front t
   pub tail_has_link : (tail : List (LinkOf ℕ)) → IsTail Has t v gone taboo tail → 0 < length tail
   tail_has_link [] tail = absurd (is_front.inner tail.walk)
   tail_has_link (link ∷ rest) tail = omega arith
+
+  -- where the tail begins
+  behind_front : (tail : List (LinkOf ℕ)) (d : LinkOf ℕ) → IsWalk Has v tail t → (get_or (front ++ tail) (length front) d).from ≡ v
+  behind_front [] d w = absurd (is_front.inner w)
+  behind_front (link ∷ rest) d w = ap (λ (l : LinkOf ℕ). l.from) (ap (λ n. get_or (front ++ link ∷ rest) n d) (sym (add-zero (length front))) ∙ get_or-append-add front (link ∷ rest) 0 d) ∙ w.1
+
+  front_taken : (xs ys : List (LinkOf ℕ)) → take (length xs) (xs ++ ys) ≡ xs
+  front_taken [] ys = refl
+  front_taken (x ∷ xs) ys = ap (λ rest. x ∷ rest) (front_taken xs ys)
+
+  module _ (Left : LinkOf ℕ → Type 0) (walks : (tail : List (LinkOf ℕ)) → IsWalk Left v tail t ↔ (IsWalk Has v tail t × All (IsSpared gone taboo) tail)) where
+    target_is : (u : ℕ) → Contains (t ∷ []) u → u ≡ t
+    target_is u has = at has.0 has.1 has.2
+      where
+        at : (k : ℕ) → k < 1 → slice_index_or (t ∷ []) k u ≡ u → u ≡ t
+        at zero h e = sym e
+        at (suc k) h e = absurd (omega arith)
+
+    leads : (tail : List (LinkOf ℕ)) → IsTail Has t v gone taboo tail → LeadsTo Left (t ∷ []) v tail
+    leads tail is_tail = record { target = t; is_target = (0, omega arith, refl); is_walk = (walks tail).1 (is_tail.walk, is_tail.spared) }
+
+    tail_of : (tail : List (LinkOf ℕ)) → LeadsTo Left (t ∷ []) v tail → IsTail Has t v gone taboo tail
+    tail_of tail lead =
+        let walk = (walks tail).0 (subst (λ u. IsWalk Left v tail u) (target_is lead.target lead.is_target) lead.is_walk) in
+        record { walk = walk.0; spared = walk.1 }
+
+    -- the least walk over what is left gives the class
+    pub class_found : (tail links : List (LinkOf ℕ)) → IsLeast nat_cmp (LeadsTo Left (t ∷ []) v) tail → IsWithoutRepeats (vertices_of v tail) → links ≡ front ++ tail → IsLeastOfClass Has s t links (length front) taboo
+    class_found tail links least once is =
+        let P : List (LinkOf ℕ) → Type 0 = λ ls. IsLeastOfClass Has s t ls (length front) taboo in
+        let Q : List (LinkOf ℕ) → Type 0 = λ ls. IsLeast nat_cmp (IsMember Has s t ls taboo) (front ++ tail) in
+        let is_tail = tail_of tail least.belongs in
+        let of_class = least_of_class tail (record { belongs = is_tail; precedes = λ other other_tail differ. least.precedes other (leads other other_tail) differ }) once in
+        subst P (sym is) (record {
+          within = omega (arith, length-append front tail, tail_has_link tail is_tail);
+          least = subst Q (sym (front_taken front tail)) of_class;
+          leave = λ d. All-weaker (λ (link : LinkOf ℕ). link.from ≡ v) (λ (link : LinkOf ℕ). link.from ≡ (get_or (front ++ tail) (length front) d).from) (λ link e. e ∙ sym (behind_front tail d is_tail.walk)) taboo is_front.leave;
+        })
+
+    -- where no walk is left the class has no route
+    pub none_found : ((walk : List (LinkOf ℕ)) → LeadsTo Left (t ∷ []) v walk → ⊥) → (route : List (LinkOf ℕ)) → IsMember Has s t front taboo route → ⊥
+    none_found none = none_of_class (λ tail is_tail. none tail (leads tail is_tail))

@@ -10,7 +10,7 @@ use crate::from_start::FromStart;
 use pgr_outside::NoMemory;
 use pgr_route::least_route;
 use pgr_search::{GuidedRoom, Room, labels_guided};
-use pgr_walks::{Graph, Link, Without, one_walk_between_ends_is_least};
+use pgr_walks::{Graph, Link, Without, one_walk_to_targets_is_least};
 use std::alloc::Global;
 
 /// Loopless routes that begin with the same links and go on with none of some links, by the first of them.
@@ -77,7 +77,7 @@ pub fn class_of<G: Graph>(
     let view = Without::view(ends.graph, gone, front.end, taboo.as_slice());
     let estimate = FromStart::beyond(ends.costs, front.end);
     labels_guided(&view, &[ends.t], front.end, &estimate, room);
-    one_walk_between_ends_is_least(&view);
+    one_walk_to_targets_is_least(&view);
     let Some(tail) = least_route(alloc, &view, front.end, room.labels())? else {
         return Ok(None);
     };
@@ -96,7 +96,7 @@ pub fn class_of<G: Graph>(
 fn joined(alloc: Global, front: &[Link], tail: &[Link]) -> Result<Vec<Link>, NoMemory>
     ensures { IfOk result (λ links. links.items ≡ front.now ++ tail.now) }
 {
-    let mut links = Vec::from_slice(alloc, front).map_err(|_| NoMemory)?;
-    links.extend_from_slice(tail).map_err(|_| NoMemory)?;
+    let mut links = Vec::from_slice(alloc, front)?;
+    links.extend_from_slice(tail)?;
     Ok(links)
 }

@@ -11,7 +11,7 @@ use crate::split::{split, whole};
 use pgr_outside::NoMemory;
 use pgr_route::Route;
 use pgr_search::{GuidedRoom, Room, labels_to};
-use pgr_walks::{Graph, Reversed};
+use pgr_walks::{Graph, Reversed, least_labels_are_small};
 use std::alloc::Global;
 use std::cmp::Reverse;
 use std::collections::BinaryHeap;
@@ -67,7 +67,9 @@ impl<'a, G: Graph> Paths<'a, G> {
         let size = g.size();
         let gone = vec![in alloc; false; size as usize]?;
         let mut costs = Room::for_size(alloc, size)?;
-        labels_to(&Reversed::view(g), &[s], &mut costs);
+        let turned = Reversed::view(g);
+        labels_to(&turned, &[s], &mut costs);
+        least_labels_are_small(&turned);
         let mut room = GuidedRoom::for_size(alloc, size)?;
         let classes = whole(alloc, &Ends { graph: g, s, t, costs: &costs }, gone.as_slice(), &mut room)?;
         Ok(Paths {
@@ -110,9 +112,9 @@ impl<'a, G: Graph> Paths<'a, G> {
             costs: &self.costs,
         };
         let mut parts = split(self.alloc, &ends, &first.0, self.gone.as_mut_slice(), &mut self.room)?;
-        let copy = Vec::from_slice(self.alloc, first.0.links.as_slice()).map_err(|_| NoMemory)?;
-        self.given.reserve(1).map_err(|_| NoMemory)?;
-        self.classes.reserve(parts.len()).map_err(|_| NoMemory)?;
+        let copy = Vec::from_slice(self.alloc, first.0.links.as_slice())?;
+        self.given.reserve(1)?;
+        self.classes.reserve(parts.len())?;
         let Some(Reverse(class)) = self.classes.pop() else {
             unreachable!()
         };

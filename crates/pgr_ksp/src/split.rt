@@ -92,9 +92,9 @@ fn mark(links: &[Link], gone: &mut [bool]) -> u64
 {
     gone.fill(false);
     let mut cost = 0;
-    for link in links {
-        gone[link.from as usize] = true;
-        cost += link.cost;
+    for passed in links {
+        gone[passed.from as usize] = true;
+        cost += passed.cost;
     }
     cost
 }
@@ -108,11 +108,9 @@ fn taboo_at(alloc: Global, class: &Class, place: usize) -> Result<Vec<Link>, NoM
 {
     let mut taboo = Vec::new(alloc);
     if place == class.kept {
-        taboo
-            .extend_from_slice(class.taboo.as_slice())
-            .map_err(|_| NoMemory)?;
+        taboo.extend_from_slice(class.taboo.as_slice())?;
     }
-    taboo.push(class.links[place]).map_err(|_| NoMemory)?;
+    taboo.push(class.links[place])?;
     Ok(taboo)
 }
 
@@ -144,6 +142,9 @@ fn add_class<G: Graph>(
 {
     match class_of(alloc, ends, front, taboo, gone, room)? {
         None => Ok(()),
-        Some(class) => classes.push(Reverse(class)).map_err(|_| NoMemory),
+        Some(class) => {
+            classes.push(Reverse(class))?;
+            Ok(())
+        }
     }
 }
