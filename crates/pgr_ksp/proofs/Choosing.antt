@@ -24,13 +24,15 @@ use Rattle.pgr_ksp.proofs.Alike.{same_is, same_itself}
 use Rattle.pgr_ksp.proofs.Sums.{count_cons, counted, none_counted, counts}
 
 -- walks from one vertex compare alike whether or not links are compared by where they begin
-same_steps : (Has : LinkOf ℕ → Type 0) (s t u : ℕ) (xs ys : List (LinkOf ℕ)) → IsWalk Has s xs t → IsWalk Has s ys u → slice_cmp (link_cmp nat_cmp) xs ys ≡ slice_cmp (step_cmp nat_cmp) xs ys
+same_steps : (Has : LinkOf ℕ → Type 0) (s t u : ℕ) (xs ys : List (LinkOf ℕ)) → IsWalk Has s xs t → IsWalk Has s ys u
+    → slice_cmp (link_cmp nat_cmp) xs ys ≡ slice_cmp (step_cmp nat_cmp) xs ys
 same_steps Has s t u [] [] w v = refl
 same_steps Has s t u [] (y ∷ ys) w v = refl
 same_steps Has s t u (x ∷ xs) [] w v = refl
 same_steps Has s t u (x ∷ xs) (y ∷ ys) w v =
     let from : x.from ≡ y.from = w.1 ∙ sym v.1 in
-    let first : link_cmp nat_cmp x y ≡ step_cmp nat_cmp x y = ap (λ o. ordering_then o (step_cmp nat_cmp x y)) (ap (λ z. nat_cmp z y.from) from ∙ tied_itself nat_cmp_total y.from) in
+    let first : link_cmp nat_cmp x y ≡ step_cmp nat_cmp x y = ap (λ o. ordering_then o (step_cmp nat_cmp x y))
+    (ap (λ z. nat_cmp z y.from) from ∙ tied_itself nat_cmp_total y.from) in
     let P : LinkOf ℕ → Type 0 = λ link. IsWalk Has link.to ys u in
     by (step_cmp nat_cmp x y) first (λ same. same_steps Has x.to t u xs ys w.2 (subst P (sym same) v.2)) refl
   where
@@ -59,11 +61,13 @@ module _ (Has : LinkOf ℕ → Type 0) (s t : ℕ) where
       let rest : Ordering = ordering_then (nat_cmp a.kept b.kept) (slice_cmp (link_cmp nat_cmp) a.taboo.items b.taboo.items) in
       let steps = same_steps Has s t t a.links.items b.links.items of_a.least.least.belongs.is_route.is_walk of_b.least.least.belongs.is_route.is_walk in
       let same : class_cmp a b ≡ ordering_then (nat_cmp (cost_of a.links.items) (cost_of b.links.items)) (ordering_then (nat_cmp (length a.links.items) (length b.links.items))
-          (ordering_then (slice_cmp (step_cmp nat_cmp) a.links.items b.links.items) rest)) =
-          λ i. ordering_then (nat_cmp (of_a.cost i) (of_b.cost i)) (ordering_then (nat_cmp (of_a.hops i) (of_b.hops i)) (ordering_then (steps i) rest)) in
-      same ∙ less_then (nat_cmp (cost_of a.links.items) (cost_of b.links.items)) (nat_cmp (length a.links.items) (length b.links.items)) (slice_cmp (step_cmp nat_cmp) a.links.items b.links.items) rest e
+      (ordering_then (slice_cmp (step_cmp nat_cmp) a.links.items b.links.items) rest)) =
+      λ i. ordering_then (nat_cmp (of_a.cost i) (of_b.cost i)) (ordering_then (nat_cmp (of_a.hops i) (of_b.hops i)) (ordering_then (steps i) rest)) in
+      same ∙ less_then (nat_cmp (cost_of a.links.items) (cost_of b.links.items)) (nat_cmp (length a.links.items) (length b.links.items))
+      (slice_cmp (step_cmp nat_cmp) a.links.items b.links.items) rest e
 
-  module _ (items : List (Reverse Class)) (top : Reverse Class) (upper : IsUpperBound later_cmp top items) (classes : All (λ item. IsClass Has s t item.0) items) (there : Contains items top) where
+  module _ (items : List (Reverse Class)) (top : Reverse Class) (upper : IsUpperBound later_cmp top items) (classes : All (λ item. IsClass Has s t item.0) items)
+      (there : Contains items top) where
     class_at : (item : Reverse Class) → Contains items item → IsClass Has s t item.0
     class_at item at = All-contains (λ (x : Reverse Class). IsClass Has s t x.0) items item classes at
 
@@ -109,7 +113,8 @@ module _ (Has : LinkOf ℕ → Type 0) (s t : ℕ) where
         of_top : IsClass Has s t top.0
         of_top = class_at top there
 
-        behind : (other : List (LinkOf ℕ)) (item : Reverse Class) → IsClass Has s t item.0 → IsMember Has s t (take item.0.kept item.0.links.items) item.0.taboo.items other → other ≢ top.0.links.items
+        behind : (other : List (LinkOf ℕ)) (item : Reverse Class) → IsClass Has s t item.0
+            → IsMember Has s t (take item.0.kept item.0.links.items) item.0.taboo.items other → other ≢ top.0.links.items
             → (top.0.links.items ≡ item.0.links.items) ⊎ Precedes nat_cmp top.0.links.items item.0.links.items → Precedes nat_cmp top.0.links.items other
         behind other item of_item member differ (inl same) =
             subst (λ ls. Precedes nat_cmp ls other) (sym same) (of_item.least.least.precedes other member (λ e. differ (e ∙ sym same)))

@@ -18,7 +18,8 @@ at_most_cost a b (inr same) = omega (arith, same.0)
 
 module _ (Has : LinkOf ℕ → Type 0) (s : ℕ) where
   -- along a link the least cost rises by no more than the link costs
-  pub cost_step : (link : LinkOf ℕ) → Has link → (a b : Option Label) → IsLabelFrom Has s link.from a → IsLabelFrom Has s link.to b → ((label : Label) → b ≡ Some label → label.cost ≤ far) → cost_or_far b - 0 ≤ (cost_or_far a - 0) + link.cost
+  pub cost_step : (link : LinkOf ℕ) → Has link → (a b : Option Label) → IsLabelFrom Has s link.from a → IsLabelFrom Has s link.to b
+      → ((label : Label) → b ≡ Some label → label.cost ≤ far) → cost_or_far b - 0 ≤ (cost_or_far a - 0) + link.cost
   cost_step link is_link None None la lb small = omega arith
   cost_step link is_link None (Some b) la lb small = omega (arith, small b refl)
   cost_step link is_link (Some a) None la lb small = absurd (lb (la.walk ++ link ∷ []) (walk-append Has s link.from link.to la.walk (link ∷ []) la.is_walk (is_link, refl, refl)))
@@ -29,10 +30,12 @@ module _ (Has : LinkOf ℕ → Type 0) (s : ℕ) where
 
   -- so the costs of all labels from the start are a consistent estimate
   pub costs_consistent : (size : ℕ) (labels : List (Option Label)) → ((link : LinkOf ℕ) → Has link → (link.from < size) × (link.to < size))
-      → ((v : ℕ) → v < size → IsLabelFrom Has s v (slice_index_or labels v None)) → ((v : ℕ) (label : Label) → v < size → slice_index_or labels v None ≡ Some label → label.cost ≤ greatest)
+      → ((v : ℕ) → v < size → IsLabelFrom Has s v (slice_index_or labels v None))
+      → ((v : ℕ) (label : Label) → v < size → slice_index_or labels v None ≡ Some label → label.cost ≤ greatest)
       → IsConsistent Has (cost_beyond labels 0)
   costs_consistent size labels below is_label small link is_link =
-      cost_step link is_link (slice_index_or labels link.from None) (slice_index_or labels link.to None) (is_label link.from (below link is_link).0) (is_label link.to (below link is_link).1)
+      cost_step link is_link (slice_index_or labels link.from None) (slice_index_or labels link.to None) (is_label link.from (below link is_link).0)
+      (is_label link.to (below link is_link).1)
       (λ label e. omega (arith, small link.to label (below link is_link).1 e))
 
 -- they are small
@@ -46,7 +49,8 @@ written_length n new old is same =
     omega (arith, is, same, length-take-le n (new ++ drop (length new) old) (omega (arith, is, same, length-append new (drop (length new) old))))
 
 -- what a search needs holds again with other marks and labels, for as many vertices
-pub can_again : (size : ℕ) (Has : LinkOf ℕ → Type 0) (s t : ℕ) (gone marks : List Bool) (costs room labels : List (Option Label)) → CanSearch size Has s t gone costs room → length marks ≡ length gone → length labels ≡ length room
+pub can_again : (size : ℕ) (Has : LinkOf ℕ → Type 0) (s t : ℕ) (gone marks : List Bool) (costs room labels : List (Option Label)) → CanSearch size Has s t gone costs room
+    → length marks ≡ length gone → length labels ≡ length room
     → CanSearch size Has s t marks costs labels
 can_again size Has s t gone marks costs room labels can same_marks same_labels = record {
   fits = can.fits;
@@ -61,7 +65,8 @@ can_again size Has s t gone marks costs room labels can same_marks same_labels =
 }
 
 -- it holds at first, by the least costs from the start
-pub can_start : (size : ℕ) (Has : LinkOf ℕ → Type 0) (s t : ℕ) (gone : List Bool) (costs room : List (Option Label)) → Fits Has → s ≢ t → s < size → t < size → length gone ≡ size → length costs ≡ size → length room ≡ size
+pub can_start : (size : ℕ) (Has : LinkOf ℕ → Type 0) (s t : ℕ) (gone : List Bool) (costs room : List (Option Label)) → Fits Has → s ≢ t → s < size → t < size
+    → length gone ≡ size → length costs ≡ size → length room ≡ size
     → ((link : LinkOf ℕ) → Has link → (link.from < size) × (link.to < size)) → ((v : ℕ) → v < size → IsLabelFrom Has s v (slice_index_or costs v None))
     → ((v : ℕ) (label : Label) → v < size → slice_index_or costs v None ≡ Some label → label.cost ≤ greatest) → CanSearch size Has s t gone costs room
 can_start size Has s t gone costs room fits differ s_below t_below marks costs_size room_size below is_label small = record {

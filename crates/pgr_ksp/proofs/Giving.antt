@@ -23,7 +23,12 @@ module _ {V : Type 0} (vertex_cmp : V → V → Ordering) (Has : LinkOf V → Ty
 
   -- none was given at first
   pub none_first : AreFirst vertex_cmp Has s t []
-  none_first = record { rises = λ i j d before inside. absurd (omega arith); members = λ route has. absurd (omega (arith, has.1)); others = λ route other has left. absurd (omega (arith, has.1)) }
+  none_first = record {
+    rises = λ i j d before inside. absurd (omega arith);
+    members = λ route has. absurd (omega (arith, has.1));
+    others = λ route other has left. absurd
+        (omega (arith, has.1));
+  }
 
   -- with the least of those left behind them the first routes are the first again
   pub one_more : (given : List (List (LinkOf V))) (route : List (LinkOf V)) → AreFirst vertex_cmp Has s t given → IsLeast vertex_cmp (IsLeft Has s t given) route
@@ -65,7 +70,8 @@ module _ {V : Type 0} (vertex_cmp : V → V → Ordering) (Has : LinkOf V → Ty
       let rest = answered answers given first may.1 in
       (rest.0, omega (arith, rest.1), λ fewer route is_route. kept answers given route (may.0 route is_route))
     where
-      kept : (answers : List (Option (List (LinkOf V)))) (given : List (List (LinkOf V))) (route : List (LinkOf V)) → Contains given route → Contains (given_after given answers) route
+      kept : (answers : List (Option (List (LinkOf V)))) (given : List (List (LinkOf V))) (route : List (LinkOf V)) → Contains given route
+          → Contains (given_after given answers) route
       kept [] given route has = has
       kept (None ∷ answers) given route has = kept answers given route has
       kept (Some x ∷ answers) given route has = kept answers (given ++ x ∷ []) route (Contains-append_left given (x ∷ []) route has)

@@ -14,12 +14,14 @@ use Rattle.pgr_ksp.proofs.Alike.{among-append, cost-append}
 use Rattle.pgr_ksp.proofs.Splitting.{IsPlace, place_of, split_step, ends_same}
 
 -- where a walk from a vertex below the size ends
-pub end_below : (Has : LinkOf ℕ → Type 0) (size : ℕ) → ((link : LinkOf ℕ) → Has link → link.to < size) → (s v : ℕ) (links : List (LinkOf ℕ)) → s < size → IsWalk Has s links v → v < size
+pub end_below : (Has : LinkOf ℕ → Type 0) (size : ℕ) → ((link : LinkOf ℕ) → Has link → link.to < size) → (s v : ℕ) (links : List (LinkOf ℕ)) → s < size
+    → IsWalk Has s links v → v < size
 end_below Has size below s v [] h w = subst (λ u. u < size) w h
 end_below Has size below s v (link ∷ links) h w = end_below Has size below link.to v links (below link w.0) w.2
 
 -- and where its links begin
-pub froms_below : (Has : LinkOf ℕ → Type 0) (size : ℕ) → ((link : LinkOf ℕ) → Has link → link.to < size) → (s v : ℕ) (links : List (LinkOf ℕ)) → s < size → IsWalk Has s links v → All (λ link. link.from < size) links
+pub froms_below : (Has : LinkOf ℕ → Type 0) (size : ℕ) → ((link : LinkOf ℕ) → Has link → link.to < size) → (s v : ℕ) (links : List (LinkOf ℕ)) → s < size
+    → IsWalk Has s links v → All (λ link. link.from < size) links
 froms_below Has size below s v [] h w = All-nil (λ (link : LinkOf ℕ). link.from < size)
 froms_below Has size below s v (link ∷ links) h w =
     All-cons (λ (link : LinkOf ℕ). link.from < size) link links (subst (λ u. u < size) (sym w.1) h) (froms_below Has size below link.to v links (below link w.0) w.2)
@@ -52,7 +54,8 @@ pub mark_more : (gone : List Bool) (links : List (LinkOf ℕ)) (i : ℕ) (d : Li
 mark_more gone links i d inside below marks v =
     let u = (get_or links i d).from in
     let parts : among (starts (take (i + 1) links)) v ≡ cond (among (starts (take i links)) v) true (among (u ∷ []) v) =
-        ap (λ ls. among (starts ls) v) (take_more links i d inside) ∙ (ap (λ xs. among xs v) (starts-append (take i links) (get_or links i d ∷ [])) ∙ among-append (starts (take i links)) (u ∷ []) v) in
+    ap (λ ls. among (starts ls) v) (take_more links i d inside) ∙ (ap (λ xs. among xs v) (starts-append (take i links) (get_or links i d ∷ [])) ∙ among-append
+    (starts (take i links)) (u ∷ []) v) in
     by u below parts (cases_eq v u)
   where
     last : (b : Bool) → cond b true true ≡ true
@@ -73,22 +76,26 @@ mark_more gone links i d inside below marks v =
         ∙ (marks v ∙ sym (parts ∙ (ap (λ b. cond (among (starts (take i links)) v) true (cond b true false)) (ne_eqb v u other) ∙ rest (among (starts (take i links)) v))))
 
 -- estimates less some number are consistent over some of the links
-pub consistent_beyond : (Has Left : LinkOf ℕ → Type 0) (labels : List (Option Label)) (base : ℕ) → ((link : LinkOf ℕ) → Left link → Has link) → IsConsistent Has (cost_beyond labels 0) → IsConsistent Left (cost_beyond labels base)
+pub consistent_beyond : (Has Left : LinkOf ℕ → Type 0) (labels : List (Option Label)) (base : ℕ) → ((link : LinkOf ℕ) → Left link → Has link)
+    → IsConsistent Has (cost_beyond labels 0) → IsConsistent Left (cost_beyond labels base)
 consistent_beyond Has Left labels base among consistent link left = omega (arith, consistent link (among link left))
 
 -- a place of a loopless route, by the link that stands there
-pub place_at : (Has : LinkOf ℕ → Type 0) (s t : ℕ) (links : List (LinkOf ℕ)) (i : ℕ) (link : LinkOf ℕ) → link ≡ get_or links i link → i < length links → IsLooplessRoute Has s links t → IsPlace Has s t links i link.from
+pub place_at : (Has : LinkOf ℕ → Type 0) (s t : ℕ) (links : List (LinkOf ℕ)) (i : ℕ) (link : LinkOf ℕ) → link ≡ get_or links i link → i < length links
+    → IsLooplessRoute Has s links t → IsPlace Has s t links i link.from
 place_at Has s t links i link is inside route =
     let P : LinkOf ℕ → Type 0 = λ x. IsPlace Has s t links i x.from in
     subst P (sym is) (place_of Has s t links i link inside route)
 
 -- the taboo links there leave it
-pub taboo_leaves : (links : List (LinkOf ℕ)) (kept : ℕ) (taboo : List (LinkOf ℕ)) (i : ℕ) (link : LinkOf ℕ) (all : List (LinkOf ℕ)) → link ≡ get_or links i link → LeaveAt links kept taboo
+pub taboo_leaves : (links : List (LinkOf ℕ)) (kept : ℕ) (taboo : List (LinkOf ℕ)) (i : ℕ) (link : LinkOf ℕ) (all : List (LinkOf ℕ)) → link ≡ get_or links i link
+    → LeaveAt links kept taboo
     → ((d : LinkOf ℕ) → all ≡ taboo_at kept taboo i ++ get_or links i d ∷ []) → All (λ x. x.from ≡ link.from) all
 taboo_leaves links kept taboo i link all is leave is_all =
     let P : LinkOf ℕ → Type 0 = λ x. x.from ≡ link.from in
     All-same P all (taboo_at kept taboo i ++ get_or links i link ∷ []) (is_all link)
-    (All-append P (taboo_at kept taboo i) (get_or links i link ∷ []) (before (eqb i kept) refl) (All-cons P (get_or links i link) [] (ap (λ (x : LinkOf ℕ). x.from) (sym is)) (All-nil P)))
+    (All-append P (taboo_at kept taboo i) (get_or links i link ∷ []) (before (eqb i kept) refl)
+    (All-cons P (get_or links i link) [] (ap (λ (x : LinkOf ℕ). x.from) (sym is)) (All-nil P)))
   where
     before : (b : Bool) → eqb i kept ≡ b → All (λ x. x.from ≡ link.from) (cond b taboo [])
     before true e = All-weaker (λ (x : LinkOf ℕ). x.from ≡ (get_or links kept link).from) (λ (x : LinkOf ℕ). x.from ≡ link.from)
@@ -96,7 +103,8 @@ taboo_leaves links kept taboo i link all is leave is_all =
     before false e = All-nil (λ (x : LinkOf ℕ). x.from ≡ link.from)
 
 -- a mark where that link begins
-pub mark_at : (gone : List Bool) (links : List (LinkOf ℕ)) (i : ℕ) (link : LinkOf ℕ) → link ≡ get_or links i link → i < length links → link.from < length gone → MarksStarts gone (take i links)
+pub mark_at : (gone : List Bool) (links : List (LinkOf ℕ)) (i : ℕ) (link : LinkOf ℕ) → link ≡ get_or links i link → i < length links → link.from < length gone
+    → MarksStarts gone (take i links)
     → MarksStarts (set gone link.from true) (take (i + 1) links)
 mark_at gone links i link is inside below marks =
     let P : LinkOf ℕ → Type 0 = λ x. MarksStarts (set gone x.from true) (take (i + 1) links) in
@@ -104,11 +112,13 @@ mark_at gone links i link is inside below marks =
     subst P (sym is) (mark_more gone links i link inside (subst Q is below) marks)
 
 -- what the links cost with it
-pub cost_at : (links : List (LinkOf ℕ)) (i : ℕ) (link : LinkOf ℕ) → link ≡ get_or links i link → i < length links → cost_of (take (i + 1) links) ≡ cost_of (take i links) + link.cost
+pub cost_at : (links : List (LinkOf ℕ)) (i : ℕ) (link : LinkOf ℕ) → link ≡ get_or links i link → i < length links
+    → cost_of (take (i + 1) links) ≡ cost_of (take i links) + link.cost
 cost_at links i link is inside = cost-more links i link inside ∙ ap (λ (x : LinkOf ℕ). cost_of (take i links) + x.cost) (sym is)
 
 -- the routes that are left there, with taboo links in the form that the code has them
-pub split_at : (links : List (LinkOf ℕ)) (kept : ℕ) (taboo : List (LinkOf ℕ)) (i : ℕ) (link : LinkOf ℕ) (all route : List (LinkOf ℕ)) → kept < length links → kept ≤ i → i < length links → goes_on (take kept links) taboo links ≡ true
+pub split_at : (links : List (LinkOf ℕ)) (kept : ℕ) (taboo : List (LinkOf ℕ)) (i : ℕ) (link : LinkOf ℕ) (all route : List (LinkOf ℕ)) → kept < length links → kept ≤ i
+    → i < length links → goes_on (take kept links) taboo links ≡ true
     → ((d : LinkOf ℕ) → all ≡ taboo_at kept taboo i ++ get_or links i d ∷ [])
     → one (goes_on (take i links) (taboo_at kept taboo i) route) ≡ one (goes_on (take i links) all route) + one (goes_on (take (i + 1) links) (taboo_at kept taboo (i + 1)) route)
 split_at links kept taboo i link all route within from inside own is_all =
@@ -116,7 +126,8 @@ split_at links kept taboo i link all route within from inside own is_all =
     ∙ ap (λ (ls : List (LinkOf ℕ)). one (goes_on (take i links) ls route) + one (goes_on (take (i + 1) links) (taboo_at kept taboo (i + 1)) route)) (sym (is_all link))
 
 -- at the end of a loopless route it alone is left
-pub split_all : (Has : LinkOf ℕ → Type 0) (s t : ℕ) (links : List (LinkOf ℕ)) (kept : ℕ) (taboo : List (LinkOf ℕ)) (i : ℕ) (route : List (LinkOf ℕ)) → kept < length links → length links ≤ i
+pub split_all : (Has : LinkOf ℕ → Type 0) (s t : ℕ) (links : List (LinkOf ℕ)) (kept : ℕ) (taboo : List (LinkOf ℕ)) (i : ℕ) (route : List (LinkOf ℕ)) → kept < length links
+    → length links ≤ i
     → IsLooplessRoute Has s links t → IsLooplessRoute Has s route t → one (goes_on (take i links) (taboo_at kept taboo i) route) ≡ one (is_same route links)
 split_all Has s t links kept taboo i route within past first other =
     let none : taboo_at kept taboo i ≡ [] = ap (λ b. cond b taboo []) (ne_eqb i kept (λ e. absurd (omega arith))) in
@@ -124,7 +135,8 @@ split_all Has s t links kept taboo i route within past first other =
     (λ k. one (goes_on (whole k) (none k) route)) ∙ ap one (ends_same Has s t links route first other)
 
 -- before the first place that is looked at the class is whole
-pub split_none : (links : List (LinkOf ℕ)) (kept : ℕ) (taboo route : List (LinkOf ℕ)) → one (goes_on (take kept links) (taboo_at kept taboo kept) route) ≡ one (goes_on (take kept links) taboo route)
+pub split_none : (links : List (LinkOf ℕ)) (kept : ℕ) (taboo route : List (LinkOf ℕ))
+    → one (goes_on (take kept links) (taboo_at kept taboo kept) route) ≡ one (goes_on (take kept links) taboo route)
 split_none links kept taboo route = ap (λ b. one (goes_on (take kept links) (cond b taboo []) route)) (eq-eqb kept kept refl)
 
 -- the link at a place begins below the size

@@ -41,7 +41,8 @@ holds-push [] last link = by (is_link link last)
     by false = refl
 holds-push (x ∷ links) last link = by (is_link link x) (holds-push links last link)
   where
-    by : (b : Bool) → holds (links ++ last ∷ []) link ≡ (holds links link || is_link link last) → (b || holds (links ++ last ∷ []) link) ≡ ((b || holds links link) || is_link link last)
+    by : (b : Bool) → holds (links ++ last ∷ []) link ≡ (holds links link || is_link link last)
+        → (b || holds (links ++ last ∷ []) link) ≡ ((b || holds links link) || is_link link last)
     by true e = refl
     by false e = e
 
@@ -68,7 +69,8 @@ goes_step (first ∷ prefix) taboo last [] free = refl
 goes_step (first ∷ prefix) taboo last (link ∷ route) free = by (is_link link first) (goes_step prefix taboo last route free)
   where
     by : (b : Bool) → one (goes_on prefix taboo route) ≡ one (goes_on prefix (taboo ++ last ∷ []) route) + one (goes_on (prefix ++ last ∷ []) [] route)
-        → one (cond b (goes_on prefix taboo route) false) ≡ one (cond b (goes_on prefix (taboo ++ last ∷ []) route) false) + one (cond b (goes_on (prefix ++ last ∷ []) [] route) false)
+        → one (cond b (goes_on prefix taboo route) false) ≡ one (cond b (goes_on prefix (taboo ++ last ∷ []) route) false) + one
+        (cond b (goes_on (prefix ++ last ∷ []) [] route) false)
     by true e = e
     by false e = refl
 
@@ -92,9 +94,10 @@ pub front_cmp : (front a b : List (LinkOf ℕ)) → route_cmp nat_cmp (front ++ 
 front_cmp [] a b = refl
 front_cmp (link ∷ front) a b =
     let cost = nat_cmp-add link.cost (cost_of (front ++ a)) (cost_of (front ++ b)) in
-    let hops : nat_cmp (suc (length (front ++ a))) (suc (length (front ++ b))) ≡ nat_cmp (length (front ++ a)) (length (front ++ b)) = one_more (length (front ++ a)) (length (front ++ b)) in
+    let hops : nat_cmp (suc (length (front ++ a))) (suc (length (front ++ b))) ≡ nat_cmp (length (front ++ a)) (length (front ++ b)) = one_more (length (front ++ a))
+    (length (front ++ b)) in
     let steps : ordering_then (step_cmp nat_cmp link link) (slice_cmp (step_cmp nat_cmp) (front ++ a) (front ++ b)) ≡ slice_cmp (step_cmp nat_cmp) (front ++ a) (front ++ b) =
-        ap (λ o. ordering_then o (slice_cmp (step_cmp nat_cmp) (front ++ a) (front ++ b))) (tied_itself (step_total nat_cmp nat_cmp_total) link) in
+    ap (λ o. ordering_then o (slice_cmp (step_cmp nat_cmp) (front ++ a) (front ++ b))) (tied_itself (step_total nat_cmp nat_cmp_total) link) in
     (λ i. ordering_then (cost i) (ordering_then (hops i) (steps i))) ∙ front_cmp front a b
   where
     one_more : (x y : ℕ) → nat_cmp (suc x) (suc y) ≡ nat_cmp x y

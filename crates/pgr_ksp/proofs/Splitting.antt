@@ -11,7 +11,8 @@ use Rattle.pgr_ksp.proofs.Alike.{Apart, AreApart, apart_from, apart_to, apart_sp
 use Rattle.pgr_ksp.proofs.Prefixes.{goes_split, goes_step, goes_freely}
 
 -- the links before a place are a walk to where the link there begins
-pub walk-take : (Has : LinkOf ℕ → Type 0) (s t : ℕ) (links : List (LinkOf ℕ)) (i : ℕ) (d : LinkOf ℕ) → i < length links → IsWalk Has s links t → IsWalk Has s (take i links) (get_or links i d).from
+pub walk-take : (Has : LinkOf ℕ → Type 0) (s t : ℕ) (links : List (LinkOf ℕ)) (i : ℕ) (d : LinkOf ℕ) → i < length links → IsWalk Has s links t
+    → IsWalk Has s (take i links) (get_or links i d).from
 walk-take Has s t [] i d h w = absurd (omega arith)
 walk-take Has s t (x ∷ links) zero d h w = sym w.1
 walk-take Has s t (x ∷ links) (suc i) d h w = (w.0, w.1, walk-take Has x.to t links i d (omega arith) w.2)
@@ -22,7 +23,8 @@ pub record IsPlace (Has : LinkOf ℕ → Type 0) (s t : ℕ) (links : List (Link
   pub apart : IsWithoutRepeats (vertices_of s (take i links))
   pub inner : v ≢ t
 
-pub place_of : (Has : LinkOf ℕ → Type 0) (s t : ℕ) (links : List (LinkOf ℕ)) (i : ℕ) (d : LinkOf ℕ) → i < length links → IsLooplessRoute Has s links t → IsPlace Has s t links i (get_or links i d).from
+pub place_of : (Has : LinkOf ℕ → Type 0) (s t : ℕ) (links : List (LinkOf ℕ)) (i : ℕ) (d : LinkOf ℕ) → i < length links → IsLooplessRoute Has s links t
+    → IsPlace Has s t links i (get_or links i d).from
 place_of Has s t links i d h route =
     let v = (get_or links i d).from in
     let walk = walk-take Has s t links i d h route.is_walk in
@@ -30,7 +32,8 @@ place_of Has s t links i d h route =
     let P : List (LinkOf ℕ) → Type 0 = λ ls. IsLooplessRoute Has s ls t in
     let again = subst P whole route in
     let split = apart_split (starts (take i links)) (vertices_of v (get_or links i d ∷ drop (i + 1) links))
-        (subst Apart (vertices-append Has s v (take i links) (get_or links i d ∷ drop (i + 1) links) walk) (apart_from (vertices_of s (take i links ++ get_or links i d ∷ drop (i + 1) links)) again.loopless)) in
+    (subst Apart (vertices-append Has s v (take i links) (get_or links i d ∷ drop (i + 1) links) walk)
+    (apart_from (vertices_of s (take i links ++ get_or links i d ∷ drop (i + 1) links)) again.loopless)) in
     let behind = walk-behind Has s v t (take i links) (get_or links i d ∷ drop (i + 1) links) walk again.is_walk in
     let clear : AreApart (starts (take i links)) (v ∷ []) = record {
       left = split.left;
@@ -39,13 +42,15 @@ place_of Has s t links i d h route =
     } in
     record {
       walk = walk;
-      apart = apart_to (vertices_of s (take i links)) (subst Apart (sym (ap (vertices_of s) (sym (append-nil (take i links))) ∙ vertices-append Has s v (take i links) [] walk)) (apart_join (starts (take i links)) (v ∷ []) clear));
+      apart = apart_to (vertices_of s (take i links)) (subst Apart
+          (sym (ap (vertices_of s) (sym (append-nil (take i links))) ∙ vertices-append Has s v (take i links) [] walk)) (apart_join (starts (take i links)) (v ∷ []) clear));
       inner = λ same. both_ways (among (vertices_of (get_or links i d).to (drop (i + 1) links)) v) split.right.0
           (ap (among (vertices_of (get_or links i d).to (drop (i + 1) links))) same ∙ end_among Has v t (get_or links i d) (drop (i + 1) links) behind);
     }
 
 -- a loopless route that begins with another to the same end is that one
-pub ends_same : (Has : LinkOf ℕ → Type 0) (s t : ℕ) (links route : List (LinkOf ℕ)) → IsLooplessRoute Has s links t → IsLooplessRoute Has s route t → goes_on links [] route ≡ is_same route links
+pub ends_same : (Has : LinkOf ℕ → Type 0) (s t : ℕ) (links route : List (LinkOf ℕ)) → IsLooplessRoute Has s links t → IsLooplessRoute Has s route t
+    → goes_on links [] route ≡ is_same route links
 ends_same Has s t links route first other = by (goes_on links [] route) refl (is_same route links) refl
   where
     nothing : (tail : List (LinkOf ℕ)) → route ≡ links ++ tail → route ≡ links
@@ -54,7 +59,8 @@ ends_same Has s t links route first other = by (goes_on links [] route) refl (is
         let P : List (LinkOf ℕ) → Type 0 = λ ls. IsLooplessRoute Has s ls t in
         let whole = subst P e other in
         let walk = walk-behind Has s t t links (link ∷ tail) first.is_walk whole.is_walk in
-        let split = apart_split (starts links) (vertices_of t (link ∷ tail)) (subst Apart (vertices-append Has s t links (link ∷ tail) first.is_walk) (apart_from (vertices_of s (links ++ link ∷ tail)) whole.loopless)) in
+        let split = apart_split (starts links) (vertices_of t (link ∷ tail)) (subst Apart (vertices-append Has s t links (link ∷ tail) first.is_walk)
+        (apart_from (vertices_of s (links ++ link ∷ tail)) whole.loopless)) in
         absurd (both_ways (among (vertices_of link.to tail) t) split.right.0 (end_among Has t t link tail walk))
 
     itself : (ls : List (LinkOf ℕ)) → goes_on ls [] ls ≡ true
@@ -70,13 +76,16 @@ ends_same Has s t links route first other = by (goes_on links [] route) refl (is
     by false e false f = e ∙ sym f
 
 -- a route with a next link that isn't taboo: the first link behind the kept ones of a class's own route isn't
-pub own_link_free : (links : List (LinkOf ℕ)) (kept : ℕ) (taboo : List (LinkOf ℕ)) (d : LinkOf ℕ) → kept < length links → goes_on (take kept links) taboo links ≡ true → holds taboo (get_or links kept d) ≡ false
+pub own_link_free : (links : List (LinkOf ℕ)) (kept : ℕ) (taboo : List (LinkOf ℕ)) (d : LinkOf ℕ) → kept < length links → goes_on (take kept links) taboo links ≡ true
+    → holds taboo (get_or links kept d) ≡ false
 own_link_free [] kept taboo d h e = absurd (omega arith)
 own_link_free (x ∷ links) zero taboo d h e = not-true (holds taboo x) e
-own_link_free (x ∷ links) (suc kept) taboo d h e = own_link_free links kept taboo d (omega arith) (sym (ap (λ b. cond b (goes_on (take kept links) taboo links) false) (link_itself x)) ∙ e)
+own_link_free (x ∷ links) (suc kept) taboo d h e = own_link_free links kept taboo d (omega arith)
+    (sym (ap (λ b. cond b (goes_on (take kept links) taboo links) false) (link_itself x)) ∙ e)
 
 -- so with the class's taboo links at its own place, and none at a later one
-pub place_free : (links : List (LinkOf ℕ)) (kept : ℕ) (taboo : List (LinkOf ℕ)) (i : ℕ) (d : LinkOf ℕ) → kept < length links → goes_on (take kept links) taboo links ≡ true → holds (taboo_at kept taboo i) (get_or links i d) ≡ false
+pub place_free : (links : List (LinkOf ℕ)) (kept : ℕ) (taboo : List (LinkOf ℕ)) (i : ℕ) (d : LinkOf ℕ) → kept < length links
+    → goes_on (take kept links) taboo links ≡ true → holds (taboo_at kept taboo i) (get_or links i d) ≡ false
 place_free links kept taboo i d h e = by (eqb i kept) refl
   where
     by : (b : Bool) → eqb i kept ≡ b → holds (cond b taboo []) (get_or links i d) ≡ false
@@ -84,11 +93,12 @@ place_free links kept taboo i d h e = by (eqb i kept) refl
     by false f = refl
 
 -- the routes that are left at a place, and those that are left behind it with the class that is split off there
-pub split_step : (links : List (LinkOf ℕ)) (kept : ℕ) (taboo : List (LinkOf ℕ)) (i : ℕ) (d : LinkOf ℕ) (route : List (LinkOf ℕ)) → kept < length links → kept ≤ i → i < length links → goes_on (take kept links) taboo links ≡ true
+pub split_step : (links : List (LinkOf ℕ)) (kept : ℕ) (taboo : List (LinkOf ℕ)) (i : ℕ) (d : LinkOf ℕ) (route : List (LinkOf ℕ)) → kept < length links → kept ≤ i
+    → i < length links → goes_on (take kept links) taboo links ≡ true
     → one (goes_on (take i links) (taboo_at kept taboo i) route)
     ≡ one (goes_on (take i links) (taboo_at kept taboo i ++ get_or links i d ∷ []) route) + one (goes_on (take (i + 1) links) (taboo_at kept taboo (i + 1)) route)
 split_step links kept taboo i d route within from inside own =
     let none : taboo_at kept taboo (i + 1) ≡ [] = ap (λ b. cond b taboo []) (ne_eqb (i + 1) kept (λ e. absurd (omega arith))) in
     goes_step (take i links) (taboo_at kept taboo i) (get_or links i d) route (place_free links kept taboo i d within own)
     ∙ ap (λ n. one (goes_on (take i links) (taboo_at kept taboo i ++ get_or links i d ∷ []) route) + n)
-        ((λ k. one (goes_on (sym (take_more links i d inside) k) (sym none k) route)))
+    ((λ k. one (goes_on (sym (take_more links i d inside) k) (sym none k) route)))

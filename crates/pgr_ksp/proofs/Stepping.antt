@@ -28,7 +28,8 @@ module _ (Has : LinkOf ℕ → Type 0) (s t : ℕ) (given : List (List (LinkOf �
   least_of_first top there upper = least_left Has s t items top upper sound.classes there given sound.partition
 
   -- what is kept when it was given, and its class split
-  pub sound_after : (rest parts new : List (Reverse Class)) (top : Reverse Class) → Contains items top → IsUpperBound later_cmp top items → IsPermutation items (top ∷ rest) → IsPermutation (rest ++ parts) new
+  pub sound_after : (rest parts new : List (Reverse Class)) (top : Reverse Class) → Contains items top → IsUpperBound later_cmp top items
+      → IsPermutation items (top ∷ rest) → IsPermutation (rest ++ parts) new
       → IsHeap later_cmp new → All (λ item. IsClass Has s t item.0) parts
       → ((route : List (LinkOf ℕ)) → IsLooplessRoute Has s route t → count_by (has route) parts + one (is_same route top.0.links.items) ≡ one (has route top))
       → IsSound Has s t (given ++ top.0.links.items ∷ []) new
@@ -42,10 +43,12 @@ module _ (Has : LinkOf ℕ → Type 0) (s t : ℕ) (given : List (List (LinkOf �
       }
 
 -- where a route is left not all were given
-pub not_all : (Has : LinkOf ℕ → Type 0) (s t : ℕ) (given : List (List (LinkOf ℕ))) (route : List (LinkOf ℕ)) → IsLeast nat_cmp (IsLeft Has s t given) route → AreAll Has s t given → ⊥
+pub not_all : (Has : LinkOf ℕ → Type 0) (s t : ℕ) (given : List (List (LinkOf ℕ))) (route : List (LinkOf ℕ)) → IsLeast nat_cmp (IsLeft Has s t given) route
+    → AreAll Has s t given → ⊥
 not_all Has s t given route least all = least.belongs.is_new (all route least.belongs.is_route)
 
 -- where no class is left all were given
-pub none_is_left : (Has : LinkOf ℕ → Type 0) (s t : ℕ) (given : List (List (LinkOf ℕ))) (items : List (Reverse Class)) → IsSound Has s t given items → length items ≡ 0 → AreAll Has s t given
+pub none_is_left : (Has : LinkOf ℕ → Type 0) (s t : ℕ) (given : List (List (LinkOf ℕ))) (items : List (Reverse Class)) → IsSound Has s t given items → length items ≡ 0
+    → AreAll Has s t given
 none_is_left Has s t given [] sound none = all_given Has s t given sound.partition
 none_is_left Has s t given (item ∷ items) sound none = absurd (omega arith)

@@ -40,7 +40,8 @@ module _ (Has : LinkOf ℕ → Type 0) (s t v : ℕ) (gone : List Bool) (front t
       apart_split (starts front) (v ∷ []) (subst P same whole)
 
   -- a walk from a vertex other than the front's end that comes to none of its vertices: each link is spared
-  spared_rest : (u : ℕ) (tail : List (LinkOf ℕ)) → IsWalk Has u tail t → ((w : ℕ) → among (starts front) w ≡ true → among (vertices_of u tail) w ≡ false) → among (vertices_of u tail) v ≡ false
+  spared_rest : (u : ℕ) (tail : List (LinkOf ℕ)) → IsWalk Has u tail t → ((w : ℕ) → among (starts front) w ≡ true → among (vertices_of u tail) w ≡ false)
+      → among (vertices_of u tail) v ≡ false
       → All (IsSpared gone taboo) tail
   spared_rest u [] w clear away = All-nil (IsSpared gone taboo)
   spared_rest u (link ∷ tail) w clear away =
@@ -77,7 +78,8 @@ module _ (Has : LinkOf ℕ → Type 0) (s t v : ℕ) (gone : List Bool) (front t
       let P : List (LinkOf ℕ) → Type 0 = λ links. IsLooplessRoute Has s links t in
       let whole : IsLooplessRoute Has s (front ++ parts.0) t = subst P parts.1 member.is_route in
       let walk = walk-behind Has s v t front parts.0 is_front.walk whole.is_walk in
-      let split = apart_split (starts front) (vertices_of v parts.0) (subst Apart (vertices-append Has s v front parts.0 is_front.walk) (apart_from (vertices_of s (front ++ parts.0)) whole.loopless)) in
+      let split = apart_split (starts front) (vertices_of v parts.0) (subst Apart (vertices-append Has s v front parts.0 is_front.walk)
+      (apart_from (vertices_of s (front ++ parts.0)) whole.loopless)) in
       (parts.0, parts.1, record { walk = walk; spared = spared_first parts.0 walk split.none_common split.right parts.2 })
 
   -- spared links lead to no vertex of the front before its end
@@ -101,21 +103,24 @@ module _ (Has : LinkOf ℕ → Type 0) (s t v : ℕ) (gone : List Bool) (front t
         is_route = record {
           is_walk = walk-append Has s v t front tail is_front.walk is_tail.walk;
           ends_differ = is_front.differ;
-          loopless = apart_to (vertices_of s (front ++ tail)) (subst Apart (sym (vertices-append Has s v front tail is_front.walk)) (apart_join (starts front) (vertices_of v tail) clear));
+          loopless = apart_to (vertices_of s (front ++ tail)) (subst Apart (sym (vertices-append Has s v front tail is_front.walk))
+              (apart_join (starts front) (vertices_of v tail) clear));
         };
         goes = goes_join front taboo tail (begins tail is_tail.spared);
       }
     where
       begins : (links : List (LinkOf ℕ)) → All (IsSpared gone taboo) links → goes_on [] taboo links ≡ true
       begins [] all = refl
-      begins (link ∷ links) all = not_from_false (holds taboo link) (false_from_ne_true (holds taboo link) (λ e. (All-head (IsSpared gone taboo) link links all).allowed (Contains-from_holds taboo link e)))
+      begins (link ∷ links) all = not_from_false (holds taboo link) (false_from_ne_true (holds taboo link)
+          (λ e. (All-head (IsSpared gone taboo) link links all).allowed (Contains-from_holds taboo link e)))
 
       by : (w : ℕ) → among (starts front) w ≡ true → (b : Bool) → eqb w v ≡ b → cond b true (among (map (λ (l : LinkOf ℕ). l.to) tail) w) ≡ true → ⊥
       by w e true same f = both_ways (eqb w v) ((or_false (eqb w v) false (front_apart.none_common w e)).0) same
       by w e false same f = tos_clear tail w is_tail.spared f e
 
   -- the front with the least tail behind it is the least route of the class
-  pub least_of_class : (tail : List (LinkOf ℕ)) → IsLeast nat_cmp (IsTail Has t v gone taboo) tail → IsWithoutRepeats (vertices_of v tail) → IsLeast nat_cmp (IsMember Has s t front taboo) (front ++ tail)
+  pub least_of_class : (tail : List (LinkOf ℕ)) → IsLeast nat_cmp (IsTail Has t v gone taboo) tail → IsWithoutRepeats (vertices_of v tail)
+      → IsLeast nat_cmp (IsMember Has s t front taboo) (front ++ tail)
   least_of_class tail least once = record {
     belongs = tail_member tail least.belongs once;
     precedes = λ other member differ.
@@ -136,7 +141,8 @@ module _ (Has : LinkOf ℕ → Type 0) (s t v : ℕ) (gone : List Bool) (front t
   -- where the tail begins
   behind_front : (tail : List (LinkOf ℕ)) (d : LinkOf ℕ) → IsWalk Has v tail t → (get_or (front ++ tail) (length front) d).from ≡ v
   behind_front [] d w = absurd (is_front.inner w)
-  behind_front (link ∷ rest) d w = ap (λ (l : LinkOf ℕ). l.from) (ap (λ n. get_or (front ++ link ∷ rest) n d) (sym (add-zero (length front))) ∙ get_or-append-add front (link ∷ rest) 0 d) ∙ w.1
+  behind_front (link ∷ rest) d w = ap (λ (l : LinkOf ℕ). l.from) (ap (λ n. get_or (front ++ link ∷ rest) n d) (sym (add-zero (length front))) ∙ get_or-append-add front
+      (link ∷ rest) 0 d) ∙ w.1
 
   front_taken : (xs ys : List (LinkOf ℕ)) → take (length xs) (xs ++ ys) ≡ xs
   front_taken [] ys = refl
@@ -159,7 +165,8 @@ module _ (Has : LinkOf ℕ → Type 0) (s t v : ℕ) (gone : List Bool) (front t
         record { walk = walk.0; spared = walk.1 }
 
     -- the least walk over what is left gives the class
-    pub class_found : (tail links : List (LinkOf ℕ)) → IsLeast nat_cmp (LeadsTo Left (t ∷ []) v) tail → IsWithoutRepeats (vertices_of v tail) → links ≡ front ++ tail → IsLeastOfClass Has s t links (length front) taboo
+    pub class_found : (tail links : List (LinkOf ℕ)) → IsLeast nat_cmp (LeadsTo Left (t ∷ []) v) tail → IsWithoutRepeats (vertices_of v tail) → links ≡ front ++ tail
+        → IsLeastOfClass Has s t links (length front) taboo
     class_found tail links least once is =
         let P : List (LinkOf ℕ) → Type 0 = λ ls. IsLeastOfClass Has s t ls (length front) taboo in
         let Q : List (LinkOf ℕ) → Type 0 = λ ls. IsLeast nat_cmp (IsMember Has s t ls taboo) (front ++ tail) in
@@ -168,7 +175,8 @@ module _ (Has : LinkOf ℕ → Type 0) (s t v : ℕ) (gone : List Bool) (front t
         subst P (sym is) (record {
           within = omega (arith, length-append front tail, tail_has_link tail is_tail);
           least = subst Q (sym (front_taken front tail)) of_class;
-          leave = λ d. All-weaker (λ (link : LinkOf ℕ). link.from ≡ v) (λ (link : LinkOf ℕ). link.from ≡ (get_or (front ++ tail) (length front) d).from) (λ link e. e ∙ sym (behind_front tail d is_tail.walk)) taboo is_front.leave;
+          leave = λ d. All-weaker (λ (link : LinkOf ℕ). link.from ≡ v) (λ (link : LinkOf ℕ). link.from ≡ (get_or (front ++ tail) (length front) d).from)
+              (λ link e. e ∙ sym (behind_front tail d is_tail.walk)) taboo is_front.leave;
         })
 
     -- where no walk is left the class has no route

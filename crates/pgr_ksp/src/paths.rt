@@ -71,7 +71,17 @@ impl<'a, G: Graph> Paths<'a, G> {
         labels_to(&turned, &[s], &mut costs);
         least_labels_are_small(&turned);
         let mut room = GuidedRoom::for_size(alloc, size)?;
-        let classes = whole(alloc, &Ends { graph: g, s, t, costs: &costs }, gone.as_slice(), &mut room)?;
+        let classes = whole(
+            alloc,
+            &Ends {
+                graph: g,
+                s,
+                t,
+                costs: &costs,
+            },
+            gone.as_slice(),
+            &mut room,
+        )?;
         Ok(Paths {
             alloc,
             graph: g,
@@ -111,7 +121,13 @@ impl<'a, G: Graph> Paths<'a, G> {
             t: self.t,
             costs: &self.costs,
         };
-        let mut parts = split(self.alloc, &ends, &first.0, self.gone.as_mut_slice(), &mut self.room)?;
+        let mut parts = split(
+            self.alloc,
+            &ends,
+            &first.0,
+            self.gone.as_mut_slice(),
+            &mut self.room,
+        )?;
         let copy = Vec::from_slice(self.alloc, first.0.links.as_slice())?;
         self.given.reserve(1)?;
         self.classes.reserve(parts.len())?;

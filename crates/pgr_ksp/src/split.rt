@@ -61,7 +61,8 @@ pub fn split<G: Graph>(
     ensures heap { IfOk result (λ parts. IsHeap later_cmp (heap_items parts)) }
     ensures classes { IfOk result (λ parts. All (λ item. IsClass (LinksOf G.Graph ends.now.graph.now) ends.now.s ends.now.t item.0) (heap_items parts)) }
     ensures parts { IfOk result (λ parts. (route : List (LinkOf ℕ)) → IsLooplessRoute (LinksOf G.Graph ends.now.graph.now) ends.now.s route ends.now.t
-        → count_by (has route) (heap_items parts) + one (is_same route class.now.links.items) ≡ one (goes_on (take class.now.kept class.now.links.items) class.now.taboo.items route)) }
+        → count_by (has route) (heap_items parts) + one (is_same route class.now.links.items)
+        ≡ one (goes_on (take class.now.kept class.now.links.items) class.now.taboo.items route)) }
     ensures marks { length gone.new ≡ length gone.old }
     ensures room { length room.new ≡ length room.old }
 {

@@ -92,8 +92,16 @@ fn is_route(found: Option<Route>, links: &[Link]) -> bool {
 
 #[test]
 fn routes_come_in_order_until_none_is_left(rt: HostRuntime) -> Result<(), Fail> {
-    let links =
-        vec![in rt.alloc(); TWO_ON, TO_ONE_SLOWER, LOOP, AT_ONCE, TO_ONE, BACK, TO_TWO, ONE_ON]?;
+    let links = vec![in rt.alloc();
+        TWO_ON,
+        TO_ONE_SLOWER,
+        LOOP,
+        AT_ONCE,
+        TO_ONE,
+        BACK,
+        TO_TWO,
+        ONE_ON,
+    ]?;
     let graph = graph_of_four(rt.alloc(), links)?;
     let mut paths = Paths::start(rt.alloc(), &graph, 0, 3)?;
     assert!(rt; is_route(paths.next()?, [TO_ONE, ONE_ON].as_slice()));

@@ -48,22 +48,26 @@ invariant_of-self-2 g c =
     let there = first_item items top some c.in-Some.ensures.lookup in
     let upper = c.in-Some.ensures.greatest sound.heap in
     let popped : Reverse Class = c.in-Some-pop.field-0 in
-    let same : popped ≡ top = (c.in-Some-pop.ensures.top ∙ ap (λ (xs : List (Reverse Class)). get_or xs 0 popped) c.reserve-2.ensures.items) ∙ (get_or_default items 0 popped top some ∙ sym c.in-Some.ensures.lookup) in
+    let same : popped ≡ top = (c.in-Some-pop.ensures.top ∙ ap (λ (xs : List (Reverse Class)). get_or xs 0 popped) c.reserve-2.ensures.items) ∙
+    (get_or_default items 0 popped top some ∙ sym c.in-Some.ensures.lookup) in
     let rest : List (Reverse Class) = heap_items c.pop.new.self in
     let parts : List (Reverse Class) = heap_items c.in_ok-parts.parts in
     let new : List (Reverse Class) = heap_items c.append.new.self in
-    let taken : IsPermutation items (popped ∷ rest) = subst (λ (xs : List (Reverse Class)). IsPermutation xs (popped ∷ rest)) c.reserve-2.ensures.items c.in-Some-pop.ensures.permutation in
+    let taken : IsPermutation items (popped ∷ rest) = subst (λ (xs : List (Reverse Class)). IsPermutation xs (popped ∷ rest)) c.reserve-2.ensures.items
+    c.in-Some-pop.ensures.permutation in
     let first : IsPermutation items (top ∷ rest) = subst (λ (x : Reverse Class). IsPermutation items (x ∷ rest)) same taken in
     let before = subst (λ (xs : List (Reverse Class)). IsHeap later_cmp xs) (sym c.reserve-2.ensures.items) sound.heap in
     let heap = c.in-Ok.ensures.heap_order (c.in-Some-pop.ensures.heap_order before).0 in
-    let after = sound_after Has inside.s inside.t inside.given.items items sound rest parts new top there upper first c.in-Ok.ensures.permutation heap c.in_ok-parts.ensures.classes c.in_ok-parts.ensures.parts in
+    let after = sound_after Has inside.s inside.t inside.given.items items sound rest parts new top there upper first c.in-Ok.ensures.permutation heap
+    c.in_ok-parts.ensures.classes c.in_ok-parts.ensures.parts in
     let route : c.of.result ≡ top.0.links.items = c.of.ensures ∙ (c.in_ok-copy.ensures.items ∙ c.as_slice.ensures.value) in
     let given : c.push.new.self.items ≡ inside.given.items ++ top.0.links.items ∷ [] = c.in-Ok-push.ensures.items ∙ (λ i. c.reserve.ensures.items i ++ route i ∷ []) in
     let marks = ap (λ (bs : List Bool). length bs) c.as_mut_slice.ensures.value in
-    let P : List (List (LinkOf ℕ)) → Type 0 = λ xs. IsSound Has inside.s inside.t xs new in
-    (can_again (g.G.Graph.count inside.graph.now) Has inside.s inside.t inside.gone.items _ inside.costs inside.room c.split.new.room c.self.invariant.0
-        (written_length inside.gone.len c.split.new.gone inside.gone.items (sym c.as_mut_slice.ensures.len ∙ marks) (c.split.ensures.marks ∙ marks)) c.split.ensures.room,
-     subst P (sym given) after)
+    let P : List (List (LinkOf ℕ)) → Type 0 = λ xs. IsSound Has inside.s inside.t xs new in (
+      can_again (g.G.Graph.count inside.graph.now) Has inside.s inside.t inside.gone.items _ inside.costs inside.room c.split.new.room c.self.invariant.0
+          (written_length inside.gone.len c.split.new.gone inside.gone.items (sym c.as_mut_slice.ensures.len ∙ marks) (c.split.ensures.marks ∙ marks)) c.split.ensures.room,
+      subst P (sym given) after,
+    )
 
 pub returns-clause-least : goal.returns-clause-least
 returns-clause-least g c =
@@ -77,7 +81,8 @@ returns-clause-least g c =
     let upper = c.in-Some.ensures.greatest sound.heap in
     let least = least_of_first Has inside.s inside.t inside.given.items items sound top there upper in
     let popped : Reverse Class = c.in-Some-pop.field-0 in
-    let same : popped ≡ top = (c.in-Some-pop.ensures.top ∙ ap (λ (xs : List (Reverse Class)). get_or xs 0 popped) c.reserve-2.ensures.items) ∙ (get_or_default items 0 popped top some ∙ sym c.in-Some.ensures.lookup) in
+    let same : popped ≡ top = (c.in-Some-pop.ensures.top ∙ ap (λ (xs : List (Reverse Class)). get_or xs 0 popped) c.reserve-2.ensures.items) ∙
+    (get_or_default items 0 popped top some ∙ sym c.in-Some.ensures.lookup) in
     let result : c.of-2.result ≡ top.0.links.items = c.of-2.ensures ∙ ap (λ (x : Reverse Class). x.0.links.items) same in
     let P : List (LinkOf ℕ) → Type 0 = λ ls. IsLeast nat_cmp (IsLeft Has inside.s inside.t inside.given.items) ls in
     rw (← c.self.view_is) (subst P (sym result) least)
