@@ -3,3 +3,4 @@ pub mod Enumeration
 pub mod Classes
 pub mod FromStart
 pub mod Sound
+pub mod FirstRoutes

@@ -1,7 +1,7 @@
 use Rattle.std.proofs.Common.{◌≤◌, ℕ, arith}
 use Rattle.std.proofs.lemmas.List.Elements.{All-contains}
 use Rattle.pgr_walks.specs.declared.link.LinkOf.{LinkOf}
-use Rattle.pgr_ksp.proofs.tests.graph_of_four.Goals as goal
+use Rattle.pgr_ksp.proofs.tests.graph_of_three.Goals as goal
 
 pub returns-clause-fits : goal.returns-clause-fits
 returns-clause-fits c =
