@@ -67,7 +67,7 @@ one_step reached v (link ∷ links) = omega arith
 -- a walk with a link has two
 pub two_steps : (names : List ℤ) (links : List (LinkOf ℕ)) → (links ≡ [] → ⊥) → 2 ≤ length (steps_of (map (named names) links))
 two_steps names [] some = absurd (some refl)
-two_steps names (link ∷ links) some = let h = one_step link.cost (id_at names link.to) (map (named names) links) in omega arith
+two_steps names (link ∷ links) some = let h = one_step (0 + link.cost) (id_at names link.to) (map (named names) links) in omega arith
 
 -- they cost together what the walk does
 cost_from : (names : List ℤ) (reached : ℕ) (v : ℤ) (links : List (LinkOf ℕ)) → sum_by (λ (step : Step). step.cost) (steps_from reached v (map (named names) links)) ≡ cost_of links
