@@ -4,7 +4,10 @@ use Rattle.pgr_answer.proofs.pointed_network.pointed_network_of.Goals as goal
 
 pub of-requires : goal.of-requires
 of-requires c = rw c.as_slice.ensures.value
-    (λ names ends. c.pointed_ends_are_few.ensures c.args.driving c.args.directed c.in_ok-links.links.items names (λ link has. (c.in_ok-links.ensures.links link).0 has) ends)
+    (record {
+      few = λ names ends. c.pointed_ends_are_few.ensures c.args.driving c.args.directed c.in_ok-links.links.items names
+          (λ link has. (c.in_ok-links.ensures.links link).0 has) ends;
+    })
 
 pub numbered-requires : goal.numbered-requires
 numbered-requires c = rw c.as_slice-2.ensures.value (rw c.as_slice.ensures.value at c.in_ok-names.ensures.named)
