@@ -36,7 +36,7 @@ before Has a b t first cost l w = record {
 module _ {V : Type 0} (same : (x y : V) → (x ≡ y) ⊎ (x ≢ y)) (Has Kept : LinkOf V → Type 0) (v : V)
     (keep : (link : LinkOf V) → Has link → link.from ≢ v → link.to ≢ v → Kept link)
     (over : (into out : LinkOf V) → Has into → Has out → into.to ≡ v → out.from ≡ v → into.from ≢ v → out.to ≢ v
-      → (into.from ≡ out.to) ⊎ LinkWithin Kept into.from out.to (into.cost + out.cost)) where
+    → (into.from ≡ out.to) ⊎ LinkWithin Kept into.from out.to (into.cost + out.cost)) where
   -- a walk to t can be led past v: from another vertex, and from v with a link into it before
   record PastIt (t : V) (walk : List (LinkOf V)) : Type 0 where
     apart : (a : V) → a ≢ v → IsWalk Has a walk t → WalkWithin Kept a t (cost_of walk)

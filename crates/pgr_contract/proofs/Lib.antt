@@ -4,3 +4,8 @@ pub mod Ids
 pub mod MadeLinks
 pub mod StepKeeps
 pub mod RunKeeps
+pub mod Weights
+pub mod Places
+pub mod Sound
+pub mod RunFits
+pub mod Examples

@@ -65,3 +65,9 @@ Contains-cons_cases y xs x (suc k, inside, is) = inr (k, omega arith, is)
 -- a list without elements has none
 pub Contains-none : {X : Type 0} (x : X) → Contains [] x → ⊥
 Contains-none x (k, inside, is) = absurd (omega arith)
+
+-- an image is among the images
+pub Contains-map : {X Y : Type 0} (f : X → Y) (xs : List X) (x : X) → Contains xs x → Contains (map f xs) (f x)
+Contains-map f [] x (k, inside, is) = absurd (omega arith)
+Contains-map f (y ∷ ys) x (zero, inside, is) = (0, omega arith, ap f is)
+Contains-map f (y ∷ ys) x (suc k, inside, is) = let (n, below, at) = Contains-map f ys x (k, omega arith, is) in (suc n, omega arith, at)

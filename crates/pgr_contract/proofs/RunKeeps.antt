@@ -53,7 +53,7 @@ run_keeps directed forbidden (method ∷ methods) S T opposites (R, (phase, rest
     keeps_on directed S R T first (run_keeps directed forbidden methods R T first.opposites rest)
 
 -- least costs over the one set of links, where walks of no greater cost lead over each
-carried : (Has Kept : LinkOf ℤ → Type 0) (s t : ℤ) (cost : ℕ) → ((walk : List (LinkOf ℤ)) → IsWalk Has s walk t → WalkWithin Kept s t (cost_of walk))
+pub carried : (Has Kept : LinkOf ℤ → Type 0) (s t : ℤ) (cost : ℕ) → ((walk : List (LinkOf ℤ)) → IsWalk Has s walk t → WalkWithin Kept s t (cost_of walk))
     → ((walk : List (LinkOf ℤ)) → IsWalk Kept s walk t → WalkWithin Has s t (cost_of walk)) → IsLeastCost Has s t cost → IsLeastCost Kept s t cost
 carried Has Kept s t cost onward back least =
     let there = onward least.walk least.is_walk in

@@ -35,7 +35,7 @@ out_neighbour : (Has : LinkOf ℤ → Type 0) (v : ℤ) (out : LinkOf ℤ) → H
 out_neighbour Has v out has at differs = (differs, (out, (has, inl (at, refl))))
 
 -- opposites without those that touch a vertex
-opposites-without : (v : ℤ) (links : List (LinkOf ℤ)) → HaveOpposites links → HaveOpposites (without_links_at v links)
+pub opposites-without : (v : ℤ) (links : List (LinkOf ℤ)) → HaveOpposites links → HaveOpposites (without_links_at v links)
 opposites-without v links opposites link h =
     let found = without_links-from v links link h in
     without_links-keeps v links (turned link) (opposites link found.0) found.1.1 found.1.0
@@ -47,8 +47,8 @@ dead_end_keeps directed S v u one opposites = record {
   onward = λ s t walk s_left t_left w. led_past same_id (Contains S.links) (Contains (without_links_at v S.links)) v
       (λ link has from to. without_links-keeps v S.links link has from to)
       (λ into out has_into has_out at_into at_out from to.
-        inl (one.only into.from (into_neighbour (Contains S.links) v into has_into at_into from)
-        ∙ sym (one.only out.to (out_neighbour (Contains S.links) v out has_out at_out to))))
+      inl (one.only into.from (into_neighbour (Contains S.links) v into has_into at_into from)
+      ∙ sym (one.only out.to (out_neighbour (Contains S.links) v out has_out at_out to))))
       s t walk (without_vertex-from v S.vertices s s_left).1 (without_vertex-from v S.vertices t t_left).1 w;
   back = λ s t walk w. spelled (Contains S.links) (Contains (without_links_at v S.links))
       (λ link h. alone (Contains S.links) link (without_links-from v S.links link h).0) s t walk w;
@@ -194,7 +194,7 @@ spell_made : (directed : Bool) (S : State) (v low high : ℤ) (there back : Opti
     → IsMade directed (length S.made) (shortcuts_between directed low high there back inside) link → WalkWithin (Contains S.links) link.from link.to link.cost
 spell_made true S v low high there back inside opposites there_is back_is link made =
     by made.either (Contains-append_cases (shortcut low high there inside) (shortcut high low back inside) made.shown
-      (at_place (shortcuts_between true low high there back inside) made.place made.shown made.at))
+    (at_place (shortcuts_between true low high there back inside) made.place made.shown made.at))
   where
     on : (a b : ℤ) (c : ℕ) → WalkWithin (Contains S.links) a b c → made.shown ≡ record { from = a; to = b; cost = c; inside = inside }
         → link ≡ link_of_made (length S.made + made.place) made.shown → WalkWithin (Contains S.links) link.from link.to link.cost
@@ -245,7 +245,7 @@ over_linear directed S v low high there back opposites two there_is back_is into
     among a b is_a is_b l =
         ends_moved (Contains (after_linear directed v low high there back S).links) into.from out.to a b (into.cost + out.cost) is_a is_b
         (among_more (without_links_at v S.links) (links_of_made directed (length S.made) (shortcuts_between directed low high there back (left_of S v))) a b
-          (into.cost + out.cost) (into.cost + out.cost) (omega arith) l)
+        (into.cost + out.cost) (into.cost + out.cost) (omega arith) l)
 
     down : (d : Bool) → (d ≡ false → HaveOpposites S.links) → into.from ≡ high → out.to ≡ low
         → LinkWithin (Contains (links_of_made d (length S.made) (shortcuts_between d low high there back (left_of S v)))) high low (into.cost + out.cost)
@@ -292,16 +292,16 @@ linear_keeps : (directed : Bool) (S : State) (v low high : ℤ) (there back : Op
 linear_keeps directed S v low high there back opposites two there_is back_is = record {
   onward = λ s t walk s_left t_left w. led_past same_id (Contains S.links) (Contains (after_linear directed v low high there back S).links) v
       (λ link has from to. Contains-append_left (without_links_at v S.links) (links_of_made directed (length S.made) (shortcuts_between directed low high there back (left_of S v))) link
-        (without_links-keeps v S.links link has from to))
+      (without_links-keeps v S.links link has from to))
       (over_linear directed S v low high there back opposites two there_is back_is)
       s t walk (without_vertex-from v S.vertices s s_left).1 (without_vertex-from v S.vertices t t_left).1 w;
   back = λ s t walk w. spelled (Contains S.links) (Contains (after_linear directed v low high there back S).links)
       (λ link h. elim (Contains-append_cases (without_links_at v S.links) (links_of_made directed (length S.made) (shortcuts_between directed low high there back (left_of S v))) link h)
-        as (λ _. WalkWithin (Contains S.links) link.from link.to link.cost) [
-          | inl old ↦ alone (Contains S.links) link (without_links-from v S.links link old).0
-          | inr new ↦ spell_made directed S v low high there back (left_of S v) opposites there_is back_is link
-              (IsMade-from directed (length S.made) (shortcuts_between directed low high there back (left_of S v)) link new)
-        ]) s t walk w;
+      as (λ _. WalkWithin (Contains S.links) link.from link.to link.cost) [
+        | inl old ↦ alone (Contains S.links) link (without_links-from v S.links link old).0
+        | inr new ↦ spell_made directed S v low high there back (left_of S v) opposites there_is back_is link
+            (IsMade-from directed (length S.made) (shortcuts_between directed low high there back (left_of S v)) link new)
+      ]) s t walk w;
   fewer = λ x h. (without_vertex-from v S.vertices x h).0;
   opposites = opposites-linear directed S v low high there back opposites;
 }

@@ -4,4 +4,3 @@ pub mod Run
 pub mod Weight
 pub mod Given
 pub mod Distances
-pub mod Shown
