@@ -1,11 +1,11 @@
 -- Small cases of steps, computed.
-use Rattle.std.proofs.Common.{◌≡◌, ◌≢◌, ◌⊎◌, inl, inr, ℕ, ◌≤◌, ℤ, pos, negsuc, Bool, true, false, List, [], ◌∷◌, Some, None, refl, sym, ◌∙◌, arith}
+use Rattle.std.proofs.Common.{◌≡◌, inl, inr, ℕ, ◌≤◌, ℤ, pos, negsuc, true, false, List, [], ◌∷◌, Some, None, refl, sym, ◌∙◌, arith}
 use Rattle.std.specs.List.{Contains, AllByRecursion}
 use Rattle.std.proofs.lemmas.List.Elements.{All-contains, All-from_recursion}
 use Rattle.std.proofs.lemmas.Int.{ints}
 use Rattle.pgr_walks.specs.declared.link.LinkOf.{LinkOf}
-use Rattle.pgr_contract.specs.State.{Made, State, first_state}
-use Rattle.pgr_contract.specs.Steps.{IsNeighbour, HasOne, HasTwo, IsWay, IsLeastLink, IsWayCost, Qualifies, after_dead_end, after_linear}
+use Rattle.pgr_contract.specs.State.{State, first_state}
+use Rattle.pgr_contract.specs.Steps.{IsNeighbour, IsWay, IsWayCost, Qualifies, after_dead_end, after_linear}
 use Rattle.pgr_contract.specs.Run.{times_over}
 use Rattle.pgr_contract.specs.Weight.{weight}
 use Rattle.pgr_words.specs.declared.method.Method.TheVariants.{DeadEnd, Linear}
@@ -87,8 +87,16 @@ the_least_of_two_parallels = (
           from = refl;
           to = refl;
           cost_is = refl;
-          least = λ other has from to. each_of with_a_parallel (λ l. l.from ≡ pos 2 → l.to ≡ pos 3 → 4 ≤ l.cost)
-              ((λ f t. absurd (omega (arith, ints))), ((λ f t. absurd (omega (arith, ints))), ((λ f t. absurd (omega (arith, ints))), ((λ f t. omega arith), ((λ f t. omega arith), tt)))))
+          least = λ other has from to. each_of with_a_parallel (λ l. l.from ≡ pos 2 → l.to ≡ pos 3 → 4 ≤ l.cost) (
+            (λ f t. absurd (omega (arith, ints))),
+            (
+              (λ f t. absurd (omega (arith, ints))),
+              (
+                (λ f t. absurd (omega (arith, ints))),
+                ((λ f t. omega arith), ((λ f t. omega arith), tt)),
+              ),
+            ),
+          )
               other has from to;
         },
         refl,

@@ -1,6 +1,6 @@
 -- Ids can be told apart, and whether a link has one as an end.
-use Rattle.std.proofs.Common.{◌≡◌, ◌≢◌, ◌⊎◌, inl, inr, ℤ, Bool, true, false, not, ◌||◌, List, refl, sym, subst, ◌∙◌, ap}
-use Rattle.std.specs.List.{Contains, filter}
+use Rattle.std.proofs.Common.{◌≡◌, ◌≢◌, ◌⊎◌, inl, inr, ℤ, Bool, true, false, not, ◌||◌, List, refl, sym, ◌∙◌, ap}
+use Rattle.std.specs.List.{Contains}
 use Rattle.std.specs.Ordering.{int_eq}
 use Rattle.std.specs.Cmp.{signed_Decides}
 use Rattle.pgr_walks.specs.declared.link.LinkOf.{LinkOf}

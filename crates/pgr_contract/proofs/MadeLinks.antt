@@ -1,5 +1,5 @@
 -- The links of shortcuts.
-use Rattle.std.proofs.Common.{◌≡◌, ◌⊎◌, inl, inr, ℕ, zero, suc, ◌+◌, ℤ, negsuc, Bool, true, false, List, [], ◌∷◌, Some, refl, sym, subst, ◌∙◌, ap, arith}
+use Rattle.std.proofs.Common.{◌≡◌, ◌⊎◌, inl, inr, ℕ, zero, suc, ◌+◌, ℤ, Bool, true, false, List, [], ◌∷◌, Some, refl, sym, subst, ◌∙◌, ap, arith}
 use Rattle.std.specs.List.{Contains, slice_get}
 use Rattle.pgr_walks.specs.declared.link.LinkOf.{LinkOf}
 use Rattle.pgr_walks.specs.Reaches.{turned}
@@ -47,7 +47,8 @@ IsMade-from true n (m ∷ more) link h = by (Contains-cons_cases (link_of_made n
 IsMade-from false n (m ∷ more) link h =
     by (Contains-cons_cases (link_of_made n m) (turned (link_of_made n m) ∷ links_of_made false (suc n) more) link h) (λ rest. IsMade-from false (suc n) more link rest)
   where
-    on_by : (turned (link_of_made n m) ≡ link) ⊎ Contains (links_of_made false (suc n) more) link → (Contains (links_of_made false (suc n) more) link → IsMade false (suc n) more link)
+    on_by : (turned (link_of_made n m) ≡ link) ⊎ Contains (links_of_made false (suc n) more) link
+        → (Contains (links_of_made false (suc n) more) link → IsMade false (suc n) more link)
         → IsMade false n (m ∷ more) link
     on_by (inl second) on = here false n m more link (inr (refl, sym second))
     on_by (inr rest) on = later false n m more link (on rest)

@@ -1,13 +1,11 @@
 -- A run keeps every distance between the vertices that are left.
-use Rattle.std.proofs.Common.{◌≡◌, ℕ, ◌≤◌, ℤ, Bool, false, List, [], ◌∷◌, refl, sym, subst, ◌∙◌, ap, arith}
-use Rattle.std.specs.Prelude.{◌↔◌}
+use Rattle.std.proofs.Common.{◌≡◌, ℕ, ℤ, Bool, false, List, [], ◌∷◌, subst, arith}
 use Rattle.std.specs.List.{Contains}
 use Rattle.pgr_walks.specs.declared.link.LinkOf.{LinkOf}
 use Rattle.pgr_walks.specs.Walk.{IsWalk, cost_of}
 use Rattle.pgr_words.specs.declared.method.Method.{Method}
-use Rattle.pgr_contract.specs.State.{State, first_state}
-use Rattle.pgr_contract.specs.Steps.{IsStep}
-use Rattle.pgr_contract.specs.Run.{Takes, IsPhase, IsRun}
+use Rattle.pgr_contract.specs.State.{State}
+use Rattle.pgr_contract.specs.Run.{Takes, IsRun}
 use Rattle.pgr_contract.specs.Given.{HaveOpposites}
 use Rattle.pgr_contract.specs.Distances.{IsLeastCost, KeepsDistances}
 use Rattle.pgr_contract.proofs.Bypass.{WalkWithin}

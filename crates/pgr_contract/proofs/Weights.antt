@@ -1,5 +1,5 @@
 -- A step never raises the sum of the costs, and no link costs more than it.
-use Rattle.std.proofs.Common.{◌≡◌, ◌≢◌, ◌⊎◌, inl, inr, ℕ, zero, suc, ◌+◌, ◌≤◌, ℤ, Bool, true, false, not, ◌&&◌, ◌||◌, cond, List, [], ◌∷◌, ◌++◌, length, Option, Some, None, Ordering, Less, Equal, Greater, refl, sym, subst, ◌∙◌, ap, arith}
+use Rattle.std.proofs.Common.{◌≡◌, ◌≢◌, ◌⊎◌, inl, inr, ℕ, ◌+◌, ◌≤◌, ℤ, Bool, true, false, not, ◌&&◌, cond, List, [], ◌∷◌, length, Option, Some, None, Ordering, Less, Equal, Greater, refl, sym, subst, ◌∙◌, ap, arith}
 use Rattle.std.specs.Prelude.{◌<ℤ◌}
 use Rattle.std.specs.List.{Contains, filter, sum_by}
 use Rattle.std.specs.Ordering.{int_cmp, int_eq, is_gt, ordering_reverse}
@@ -9,11 +9,11 @@ use Rattle.std.proofs.lemmas.Int.{ints}
 use Rattle.pgr_walks.specs.declared.link.LinkOf.{LinkOf}
 use Rattle.pgr_walks.specs.Reaches.{turned}
 use Rattle.pgr_contract.specs.State.{Made, State, left_of, touches, without_links_at, link_of_made, links_of_made}
-use Rattle.pgr_contract.specs.Steps.{HasOne, HasTwo, IsLeastLink, IsWayCost, shortcut, shortcuts_between, after_dead_end, after_linear}
-use Rattle.pgr_contract.specs.Weight.{counts, counted, weight}
+use Rattle.pgr_contract.specs.Steps.{HasTwo, IsWayCost, shortcuts_between, after_linear}
+use Rattle.pgr_contract.specs.Weight.{counted, weight}
 use Rattle.pgr_contract.specs.Given.{HaveOpposites}
 use Rattle.pgr_contract.proofs.Lists.{Contains-cons_cases, Contains-none}
-use Rattle.pgr_contract.proofs.Ids.{same_id, eq-int_eq, ne-int_eq, touches-false, touches-true, touched_from, touched_to, untouched}
+use Rattle.pgr_contract.proofs.Ids.{same_id, eq-int_eq, ne-int_eq, touches-false, touches-true, touched_from, touched_to}
 
 -- what one element adds is at most the sum
 pub member_sum : {X : Type 0} (f : X → ℕ) (xs : List X) (x : X) → Contains xs x → f x ≤ sum_by f xs
@@ -70,7 +70,8 @@ down_counts_not link less = by (int_cmp link.from link.to) refl where
   by Greater e = ap (λ o. cond (not (is_gt o)) link.cost 0) e
 
 -- no link of a list costs more than the sum, where in the undirected graph the opposite of each stands
-pub cost_within : (directed : Bool) (links : List (LinkOf ℤ)) → (directed ≡ false → HaveOpposites links) → (link : LinkOf ℤ) → Contains links link → link.cost ≤ weight directed links
+pub cost_within : (directed : Bool) (links : List (LinkOf ℤ)) → (directed ≡ false → HaveOpposites links) → (link : LinkOf ℤ) → Contains links link
+    → link.cost ≤ weight directed links
 cost_within true links opposites link h = member_sum (counted true) links link h
 cost_within false links opposites link h = elim (counts_either link) as (λ _. link.cost ≤ weight false links) [
   | inl same ↦ omega (arith, member_sum (counted false) links link h, same)
@@ -157,7 +158,14 @@ way_sum : (links : List (LinkOf ℤ)) (a v b : ℤ) (cost : Option ℕ) → IsWa
     → cost_or_zero cost ≤ sum_by (part (counted true) a v) links + sum_by (part (counted true) v b) links
 way_sum links a v b None way = omega arith
 way_sum links a v b (Some cost) (i, (o, (into, (out, is)))) =
-    omega (arith, is, into.cost_is, out.cost_is, part_sum (counted true) a v links into.link into.has into.from into.to, part_sum (counted true) v b links out.link out.has out.from out.to)
+    omega (
+      arith,
+      is,
+      into.cost_is,
+      out.cost_is,
+      part_sum (counted true) a v links into.link into.has into.from into.to,
+      part_sum (counted true) v b links out.link out.has out.from out.to,
+    )
 
 -- in the undirected graph the links between two vertices, both ways, add up to the cost of each at least
 either_sum : (links : List (LinkOf ℤ)) (a b : ℤ) → HaveOpposites links → (link : LinkOf ℤ) → Contains links link → link.from ≡ a → link.to ≡ b

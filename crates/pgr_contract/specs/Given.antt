@@ -1,5 +1,5 @@
 -- What is asked of the links that a contraction is given.
-use Rattle.std.specs.Prelude.{◌≡◌, ℕ, ℤ, pos, Bool, false, List, Contains}
+use Rattle.std.specs.Prelude.{◌≡◌, ℕ, ℤ, pos, List, Contains}
 use Rattle.pgr_walks.specs.declared.link.LinkOf.{LinkOf}
 use Rattle.pgr_walks.specs.Reaches.{turned}
 
