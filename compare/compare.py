@@ -13,7 +13,9 @@ import os
 import pwd
 import random
 import shutil
+import signal
 import subprocess
+import sys
 import tempfile
 
 import judge
@@ -181,6 +183,7 @@ def main():
     options.add_argument("--trials", type=int, default=100)
     options.add_argument("--seed", type=int, default=1)
     given = options.parse_args()
+    signal.signal(signal.SIGTERM, lambda *_: sys.exit(1))
     with Cluster() as cluster:
         print("pgRouting %s, %d tables, seed %d" % (cluster.ask("SELECT pgr_version()")[0][0], given.trials, given.seed))
         agree, differ = trials(given.pgr, cluster, given.trials, given.seed)

@@ -1,0 +1,151 @@
+#!/usr/bin/env python3
+"""The time of pgr against a twin in C++ over the same tables, as ratios by size, with memory and growth.
+
+    bench/bench.py [--pgr PROGRAM] [--sizes 10000,100000] [--kinds grid,random] [--best 3] [--seed 1] [--limit 600]
+    bench/bench.py --check [--pgr PROGRAM]      compares the answers of the two over small networks, and times nothing
+
+Give the built program, crates/pgr_cli/out/pgr_cli: bin/pgr looks for changed sources at each run. Wanted are g++ and python3.
+Each time is the least of some runs of a whole process, from the table to its rows on /dev/null. Only ratios within one run
+count. Memory is the greatest resident set of a process.
+"""
+import argparse
+import math
+import os
+import random
+import subprocess
+import sys
+import tempfile
+import time
+
+HERE = os.path.dirname(os.path.realpath(__file__))
+WHOLE = ["pgr_connectedComponents", "pgr_strongComponents", "pgr_biconnectedComponents", "pgr_articulationPoints", "pgr_bridges"]
+
+
+def grid(size, r):
+    """A square of streets with about so many edges, one in fifteen of them one-way; the ends of a long way, and some places."""
+    side = max(2, round(math.sqrt(size / 2)))
+    pairs = []
+    for y in range(side):
+        for x in range(side):
+            v = y * side + x + 1
+            pairs += [(v, v + 1)] if x + 1 < side else []
+            pairs += [(v, v + side)] if y + 1 < side else []
+    at = lambda y, x: int(y * (side - 1)) * side + int(x * (side - 1)) + 1
+    return pairs, at(.2, .2), at(.8, .8), sorted({at(k / 7, .5) for k in range(8)})
+
+
+def random_network(size, r):
+    """A network with about so many edges over half as many vertices, ends drawn at random."""
+    count = max(2, size // 2)
+    pairs = [(r.randint(1, count), r.randint(1, count)) for _ in range(size)]
+    places = sorted({r.choice(pairs)[0] for _ in range(8)})
+    return pairs, pairs[0][0], pairs[-1][1], places
+
+
+def table(kind, size, seed, folder):
+    r = random.Random("%s %d %d" % (kind, size, seed))
+    pairs, start, end, places = (grid if kind == "grid" else random_network)(size, r)
+    path = os.path.join(folder, "%s%d.csv" % (kind, size))
+    with open(path, "w", encoding="utf-8") as file:
+        file.write("id,source,target,cost,reverse_cost\n")
+        for edge, (a, b) in enumerate(pairs, 1):
+            cost = r.randint(1, 100)
+            file.write("%d,%d,%d,%d,%d\n" % (edge, a, b, cost, cost if r.random() < 14 / 15 else -1))
+    return path, start, end, places
+
+
+def jobs(path, start, end, places):
+    """What is asked of each function over a table: a function is a line here and an arm in twin.cpp."""
+    edges, some = "--edges=" + path, ",".join(map(str, places))
+    yield ["pgr_dijkstra", edges, "--start=%d" % start, "--end=%d" % end]
+    yield ["pgr_dijkstraCost", edges, "--start=" + some, "--end=%d,%d" % (start, end)]
+    yield ["pgr_dijkstraCostMatrix", edges, "--vids=" + some]
+    yield ["pgr_drivingDistance", edges, "--start=%d" % start, "--distance=1000"]
+    for name in WHOLE:
+        yield [name, edges]
+
+
+def run(words, limit):
+    """Milliseconds and greatest resident kilobytes of a process, or none where it passes the limit of seconds or fails."""
+    began = time.perf_counter()
+    with open(os.devnull, "wb") as nothing:
+        process = subprocess.Popen(["timeout", str(limit), *words], stdout=nothing, stderr=nothing)
+        _, status, used = os.wait4(process.pid, 0)
+        process.returncode = status
+    return ((time.perf_counter() - began) * 1e3, used.ru_maxrss) if status == 0 else None
+
+
+def best(words, count, limit):
+    runs = [run(words, limit) for _ in range(count)]
+    return None if None in runs else (min(ms for ms, _ in runs), max(kb for _, kb in runs))
+
+
+def growth(points):
+    """The exponent of time over size, from the first to the last size."""
+    points = [(size, ms) for size, ms in points if ms]
+    if len(points) < 2:
+        return "-"
+    (a, s), (b, t) = points[0], points[-1]
+    return "%.2f" % (math.log(t / s) / math.log(b / a))
+
+
+def measure(given, twin, folder):
+    sizes = [int(size) for size in given.sizes.split(",")]
+    for kind in given.kinds.split(","):
+        times = {}
+        print("\n| %s, function | edges | pgr / twin | pgr / reading | memory, pgr / twin |\n|---|---|---|---|---|" % kind)
+        for size in sizes:
+            made = table(kind, size, given.seed, folder)
+            reading = best([twin, "read", "--edges=" + made[0]], given.best, given.limit)
+            for words in jobs(*made):
+                ours, theirs = best([given.pgr, *words], given.best, given.limit), best([twin, *words], given.best, given.limit)
+                times.setdefault(words[0], []).append((size, ours and ours[0]))
+                ratios = ["over the limit"] * 3
+                if ours and theirs:
+                    ratios = ["%.1f" % (ours[0] / theirs[0]), "%.1f" % (ours[0] / reading[0]), "%.1f" % (ours[1] / theirs[1])]
+                print("| `%s` | %d | %s |" % (words[0], size, " | ".join(ratios)), flush=True)
+        print("\n| %s, function | growth: exponent of the time of pgr over edges |\n|---|---|" % kind)
+        for name, points in times.items():
+            print("| `%s` | %s |" % (name, growth(points)))
+
+
+def output(words):
+    return subprocess.run(words, stdout=subprocess.PIPE, check=True, text=True).stdout
+
+
+def check(given, twin, folder):
+    """The answers of the two are the same; of a route, its ends and its cost, and of a reach, all but the tree."""
+    differ = count = 0
+    for kind in given.kinds.split(","):
+        for size in (2, 8, 60):
+            for words in jobs(*table(kind, size, given.seed, folder)):
+                answers = [output([program, *words]).splitlines()[1:] for program in (given.pgr, twin)]
+                if words[0] == "pgr_dijkstra":
+                    answers = [[row.split(",")[2:4] + row.split(",")[7:] for row in rows if ",-1,0," in row] for rows in answers]
+                if words[0] == "pgr_drivingDistance":
+                    answers = [[[row.split(",")[k] for k in (0, 2, 4, 7)] for row in rows] for rows in answers]
+                count += 1
+                if answers[0] != answers[1]:
+                    differ += 1
+                    print("differ: %s\n  pgr:  %s\n  twin: %s" % (" ".join(words), *answers))
+    print("%d questions, %d answered differently" % (count, differ))
+    return 1 if differ else 0
+
+
+def main():
+    options = argparse.ArgumentParser(description=__doc__, formatter_class=argparse.RawDescriptionHelpFormatter)
+    options.add_argument("--pgr", default=os.path.join(HERE, "..", "crates", "pgr_cli", "out", "pgr_cli"))
+    options.add_argument("--sizes", default="10000,100000")
+    options.add_argument("--kinds", default="grid,random")
+    options.add_argument("--best", type=int, default=3)
+    options.add_argument("--seed", type=int, default=1)
+    options.add_argument("--limit", type=int, default=600)
+    options.add_argument("--check", action="store_true")
+    given = options.parse_args()
+    with tempfile.TemporaryDirectory(prefix="pgr_bench_") as folder:
+        twin = os.path.join(folder, "twin")
+        subprocess.run(["g++", "-O2", "-std=c++17", "-o", twin, os.path.join(HERE, "twin.cpp")], check=True)
+        sys.exit(check(given, twin, folder) if given.check else measure(given, twin, folder))
+
+
+main()
