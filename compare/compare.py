@@ -52,7 +52,10 @@ class Cluster:
 
     def __exit__(self, *_):
         if os.path.exists(os.path.join(self.data, "postmaster.pid")):
-            self.tool("pg_ctl", "-D", self.data, "-m", "immediate", "stop")
+            try:
+                self.tool("pg_ctl", "-D", self.data, "-m", "immediate", "stop")
+            except subprocess.CalledProcessError:
+                print("the cluster in %s could not be ended" % self.folder, file=sys.stderr)
         shutil.rmtree(self.folder, ignore_errors=True)
 
     def tool(self, name, *words):
