@@ -20,7 +20,7 @@ CASES = [
         "edges": [(1, 1, 1, 1, -1), (2, 1, 2, 1, -1), (3, 2, 3, 1, -1)],
     },
     {
-        "says": "Two edges between the same vertices close a circle and are one block; pgRouting names a block for each.",
+        "says": "Two edges between the same vertices close a circle and are one block; pgRouting puts them into different ones.",
         "function": "pgr_biconnectedComponents", "asked": (),
         "edges": [(1, 1, 2, 1, -1), (2, 1, 2, 1, -1), (3, 2, 3, 1, -1)],
     },
@@ -33,5 +33,10 @@ CASES = [
         "says": "Costs beyond 2^53: numbers of floating point have no 9007199254740993, so the sum of 2^53 and 1 is one too low.",
         "function": "pgr_dijkstraCost", "asked": ([1], [3], True),
         "edges": [(1, 1, 2, 9007199254740992, -1), (2, 2, 3, 1, -1)],
+    },
+    {
+        "says": "One self loop: pgRouting ends the server by a segmentation fault; a self loop is a block of its own.",
+        "function": "pgr_biconnectedComponents", "asked": (),
+        "edges": [(1, 1, 1, 1, -1)],
     },
 ]

@@ -17,6 +17,7 @@ import signal
 import subprocess
 import sys
 import tempfile
+import time
 
 import judge
 from cases import CASES
@@ -66,7 +67,11 @@ class Cluster:
     def ask(self, text):
         """The rows of a query as lists of words, or the text of its error in a line."""
         command = ["psql", "-X", "-q", "-h", self.folder, "-U", "asker", "-d", "postgres", "-AtF,", "-v", "ON_ERROR_STOP=1"]
-        run = subprocess.run(command, input=text, text=True, capture_output=True, env={**os.environ, "PGTZ": "UTC"})
+        for _ in range(50):
+            run = subprocess.run(command, input=text, text=True, capture_output=True)
+            if "connection to server on socket" not in run.stderr:
+                break
+            time.sleep(0.2)  # a query before this one ended the server, which begins again
         if run.returncode:
             return "error: " + (run.stderr.strip().splitlines() or ["no answer"])[0].split("ERROR:")[-1].strip()
         return [line.split(",") for line in run.stdout.splitlines()]

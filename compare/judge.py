@@ -142,6 +142,8 @@ def equal(answer, right):
 
 
 def number(word):
+    if word.lstrip("-").isdigit():
+        return int(word)
     value = float(word)
     return int(value) if value == int(value) else value
 
