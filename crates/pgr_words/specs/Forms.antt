@@ -43,6 +43,19 @@ side text =
 abbrev pub distance : List ℕ → Option ℕ
 distance text = digits_up_to most_distance text
 
+-- the greatest count
+abbrev pub most_count : ℕ
+most_count = 1000000
+
+-- the number where it isn't 0
+abbrev pub from_one : Option ℕ → Option ℕ
+from_one None = None
+from_one (Some number) = if nat_lt 0 number then Some number else None
+
+-- a count: digits alone, from 1 to 1,000,000
+abbrev pub count : List ℕ → Option ℕ
+count text = from_one (digits_up_to most_count text)
+
 -- the answer of a reader is what the text stands for, or that it isn't in the form, unless memory was wanting
 abbrev pub Reads : {X Y : Type 0} → (X → Y) → Option Y → Result X ValueRefused → Type 0
 Reads view value (Ok x) = value ≡ Some (view x)

@@ -6,7 +6,7 @@ use Rattle.std.specs.Str.{bytes_eq}
 use Rattle.pgr_words.specs.declared.function.Function.{Function}
 use Rattle.pgr_words.specs.declared.function.Function.TheVariants as function
 use Rattle.pgr_words.specs.declared.option.OptionName.{OptionName}
-use Rattle.pgr_words.specs.declared.option.OptionName.TheVariants.{Edges, Points, Combinations, Start, End, Vids, Directed, DrivingSide, Details, Distance, Equicost}
+use Rattle.pgr_words.specs.declared.option.OptionName.TheVariants.{Edges, Points, Combinations, Start, End, Vids, Directed, DrivingSide, Details, Distance, Equicost, K}
 use Rattle.pgr_words.specs.Options.{name_of, is_same}
 
 -- the options of a function that asks for pairs, in the order in which needed ones are looked for
@@ -29,6 +29,10 @@ driving_options = Edges ∷ Start ∷ Distance ∷ Directed ∷ Equicost ∷ []
 abbrev pub point_options : List OptionName
 point_options = Edges ∷ Points ∷ Start ∷ End ∷ Combinations ∷ Directed ∷ DrivingSide ∷ Details ∷ []
 
+-- the options of the first K routes, in the same order
+abbrev pub ksp_options : List OptionName
+ksp_options = Edges ∷ Start ∷ End ∷ K ∷ Combinations ∷ Directed ∷ []
+
 -- each function by what it is called, with its options
 abbrev pub functions : List (List ℕ × (Function × List OptionName))
 functions =
@@ -42,6 +46,7 @@ functions =
     ∷ (codes "pgr_dijkstraCostMatrix", (function.DijkstraCostMatrix, matrix_options))
     ∷ (codes "pgr_drivingDistance", (function.DrivingDistance, driving_options))
     ∷ (codes "pgr_withPoints", (function.WithPoints, point_options))
+    ∷ (codes "pgr_KSP", (function.Ksp, ksp_options))
     ∷ []
 
 -- the function that is called so, and its options

@@ -6,7 +6,7 @@ use Rattle.pgr_words.specs.declared.option.Need.{Need}
 use Rattle.pgr_words.specs.declared.option.Need.TheVariants.{Always, WithoutCombinations, Never}
 use Rattle.pgr_words.specs.declared.option.OptionName.{OptionName}
 use Rattle.pgr_words.specs.declared.option.OptionName.TheVariants as option
-use Rattle.pgr_words.specs.Forms.{file_name, ids, flag, side, distance}
+use Rattle.pgr_words.specs.Forms.{file_name, ids, flag, side, distance, count}
 
 -- an option: its name without the two hyphens, when it is needed, and what a text makes of a command, or none where the text isn't in the option's form
 pub record OptionRule : Type 0 where
@@ -74,6 +74,11 @@ rule_of option.Equicost = record {
   name = codes "equicost";
   need = Never;
   fill = into flag (λ is_equicost command. record command { equicost = is_equicost });
+}
+rule_of option.K = record {
+  name = codes "K";
+  need = Always;
+  fill = into count (λ number command. record command { k = number });
 }
 
 -- what an option is called, without its two hyphens

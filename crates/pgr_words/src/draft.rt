@@ -11,7 +11,9 @@ use crate::command::Command;
 use crate::fault::{WordFault, WordsRefused};
 use crate::function::Function;
 use crate::option::{Need, OptionName};
-use crate::value::{ValueRefused, read_distance, read_file_name, read_flag, read_ids, read_side};
+use crate::value::{
+    ValueRefused, read_count, read_distance, read_file_name, read_flag, read_ids, read_side,
+};
 use std::alloc::Global;
 
 /// A command that is being read: its fields so far, and the options that stood.
@@ -119,6 +121,7 @@ fn set_option(
         OptionName::Details => command.details = read_flag(value)?,
         OptionName::Distance => command.distance = read_distance(value)?,
         OptionName::Equicost => command.equicost = read_flag(value)?,
+        OptionName::K => command.k = read_count(value)?,
     }
     Ok(())
 }

@@ -26,6 +26,8 @@ pub enum Function {
     DrivingDistance,
     /// `pgr_withPoints`: least routes between vertices and points on edges.
     WithPoints,
+    /// `pgr_KSP`: the first K loopless routes.
+    Ksp,
 }
 
 /// The options of a function that asks for pairs, in the order in which needed ones are looked for.
@@ -64,6 +66,16 @@ const POINT_OPTIONS: [OptionName; 8] = [
     OptionName::Details,
 ];
 
+/// The options of the first K routes, in the same order.
+const KSP_OPTIONS: [OptionName; 6] = [
+    OptionName::Edges,
+    OptionName::Start,
+    OptionName::End,
+    OptionName::K,
+    OptionName::Combinations,
+    OptionName::Directed,
+];
+
 impl Function {
     /// The function that is called so, with its options, if there is one.
     pub(crate) fn named(name: &str) -> Option<(Function, &'static [OptionName])>
@@ -80,6 +92,7 @@ impl Function {
             "pgr_dijkstraCostMatrix" => Some((Function::DijkstraCostMatrix, &MATRIX_OPTIONS)),
             "pgr_drivingDistance" => Some((Function::DrivingDistance, &DRIVING_OPTIONS)),
             "pgr_withPoints" => Some((Function::WithPoints, &POINT_OPTIONS)),
+            "pgr_KSP" => Some((Function::Ksp, &KSP_OPTIONS)),
             _ => None,
         }
     }

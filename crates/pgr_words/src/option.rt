@@ -30,6 +30,8 @@ pub enum OptionName {
     Distance,
     /// Whether each vertex is given to its closest start.
     Equicost,
+    /// How many routes are given.
+    K,
 }
 
 /// When a function needs an option that it has.
@@ -77,6 +79,7 @@ impl OptionName {
             OptionName::Details => ("details", Need::Never),
             OptionName::Distance => ("distance", Need::Always),
             OptionName::Equicost => ("equicost", Need::Never),
+            OptionName::K => ("K", Need::Always),
         };
         OptionRule { name, need }
     }

@@ -1,5 +1,5 @@
 ghost use Rattle.std.specs.Prelude.{◌≡◌};
-ghost use Rattle.pgr_words.specs.Forms.{Reads, file_name, ids, flag, side, distance};
+ghost use Rattle.pgr_words.specs.Forms.{Reads, file_name, ids, flag, side, distance, count};
 ghost use Rattle.pgr_words.specs.Rising.{rising};
 
 use pgr_numerals::{read_digits, read_i64_list};
@@ -14,6 +14,9 @@ const MOST_IDS: usize = 65536;
 
 /// The greatest distance.
 const MOST_DISTANCE: u64 = 9_223_372_036_854_775_807;
+
+/// The greatest count.
+const MOST_COUNT: u64 = 1_000_000;
 
 /// Why a value wasn't read.
 #[derive(Clone, Copy, Debug, PartialEq, Eq, Drop)]
@@ -85,6 +88,16 @@ pub(crate) fn read_distance(value: &str) -> Result<u64, ValueRefused>
     ensures { Reads (λ number. number) (distance value.now) result }
 {
     read_digits(value.as_bytes(), MOST_DISTANCE).ok_or(ValueRefused::Form)
+}
+
+/// A count: digits alone, from 1 to 1,000,000.
+pub(crate) fn read_count(value: &str) -> Result<u32, ValueRefused>
+    ensures { Reads (λ number. number) (count value.now) result }
+{
+    match read_digits(value.as_bytes(), MOST_COUNT) {
+        Some(number) if number > 0 => Ok(number as u32),
+        _ => Err(ValueRefused::Form),
+    }
 }
 
 /// Puts the numbers in order and takes repeats out.

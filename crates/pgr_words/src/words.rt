@@ -129,6 +129,38 @@ mod tests {
     }
 
     #[test]
+    fn several_routes_have_a_count_from_one_to_a_million(rt: HostRuntime) -> Result<(), Fail> {
+        let alloc = rt.alloc();
+        let name = "pgr_KSP";
+        let words = words(
+            alloc,
+            &[
+                name,
+                "--K=0001000000",
+                "--end=2",
+                "--start=1",
+                "--edges=a.csv",
+            ],
+        )?;
+        let command = read_words(alloc, words.as_slice())?;
+        assert_eq!(rt; command.function, Function::Ksp);
+        assert_eq!(rt; command.k, 1_000_000);
+        assert!(rt; command.directed);
+        let no_count = WordFault::MissingOption(OptionName::K);
+        assert_eq!(rt;
+            fault(alloc, &[name, "--edges=a", "--combinations=p"])?,
+            Some(no_count)
+        );
+        let unknown = WordFault::UnknownOption(2);
+        assert_eq!(rt; fault(alloc, &[name, "--k=2"])?, Some(unknown));
+        let bad = WordFault::BadValue(OptionName::K);
+        for count in ["--K=", "--K=0", "--K=+1", "--K=1000001"] {
+            assert_eq!(rt; fault(alloc, &[name, count])?, Some(bad));
+        }
+        Ok(())
+    }
+
+    #[test]
     fn driving_distance_needs_its_options_in_order(rt: HostRuntime) -> Result<(), Fail> {
         let alloc = rt.alloc();
         let name = "pgr_drivingDistance";
