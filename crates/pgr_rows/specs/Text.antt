@@ -3,12 +3,13 @@ use Rattle.std.specs.Prelude.{ℕ, ℤ, List, [], ◌∷◌, codes, decimal}
 use Rattle.std.specs.Fmt.{signed_decimal}
 use Rattle.pgr_rows.specs.Layout.{Layout, table_text}
 use Rattle.pgr_rows.specs.declared.rows.PathRow.{PathRow}
+use Rattle.pgr_rows.specs.declared.rows.KspRow.{KspRow}
 use Rattle.pgr_rows.specs.declared.rows.CostRow.{CostRow}
 use Rattle.pgr_rows.specs.declared.rows.PartRow.{PartRow}
 use Rattle.pgr_rows.specs.declared.rows.ClassRow.{ClassRow}
 use Rattle.pgr_rows.specs.declared.rows.ReachRow.{ReachRow}
 use Rattle.pgr_rows.specs.declared.rows.Rows.{Rows}
-use Rattle.pgr_rows.specs.declared.rows.Rows.TheVariants.{Paths, Parts, Classes, Nodes, Edges, Costs, Reaches}
+use Rattle.pgr_rows.specs.declared.rows.Rows.TheVariants.{Paths, Parts, Classes, Nodes, Edges, Costs, Reaches, Ksp}
 
 -- rows of paths
 abbrev pub paths : Layout PathRow
@@ -16,6 +17,23 @@ paths = record {
   header = codes "seq,path_seq,start_vid,end_vid,node,edge,cost,agg_cost\n";
   fields = λ row.
       decimal row.seq
+      ∷ decimal row.path_seq
+      ∷ signed_decimal row.start_vid
+      ∷ signed_decimal row.end_vid
+      ∷ signed_decimal row.node
+      ∷ signed_decimal row.edge
+      ∷ decimal row.cost
+      ∷ decimal row.agg_cost
+      ∷ [];
+}
+
+-- rows of several paths for each pair
+abbrev pub several_paths : Layout KspRow
+several_paths = record {
+  header = codes "seq,path_id,path_seq,start_vid,end_vid,node,edge,cost,agg_cost\n";
+  fields = λ row.
+      decimal row.seq
+      ∷ decimal row.path_id
       ∷ decimal row.path_seq
       ∷ signed_decimal row.start_vid
       ∷ signed_decimal row.end_vid
@@ -88,3 +106,4 @@ text_of (Nodes ids) = table_text nodes ids
 text_of (Edges ids) = table_text edges ids
 text_of (Costs rows) = table_text costs rows
 text_of (Reaches rows) = table_text reaches rows
+text_of (Ksp rows) = table_text several_paths rows

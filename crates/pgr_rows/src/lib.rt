@@ -10,5 +10,5 @@ mod record;
 mod rows;
 mod writing;
 
-pub use rows::{ClassRow, CostRow, PartRow, PathRow, ReachRow, Rows};
+pub use rows::{ClassRow, CostRow, KspRow, PartRow, PathRow, ReachRow, Rows};
 pub use writing::write_table;

@@ -50,6 +50,57 @@ impl Record for PathRow {
     }
 }
 
+/// A row of a table of several paths for each pair: one link of a path, or its end.
+#[derive(Clone, Copy, Debug, PartialEq, Eq)]
+pub struct KspRow {
+    /// The number of the row in the table, from 1.
+    pub seq: u64,
+    /// The number of the path among those of its pair, from 1.
+    pub path_id: u64,
+    /// The number of the row in its path, from 1.
+    pub path_seq: u64,
+    /// The vertex where the path begins.
+    pub start_vid: i64,
+    /// The vertex where the path ends.
+    pub end_vid: i64,
+    /// The vertex where the link begins, or the end.
+    pub node: i64,
+    /// The edge of the link, or -1 at the end.
+    pub edge: i64,
+    /// The cost of the link, or 0 at the end.
+    pub cost: u64,
+    /// The cost of the path up to the vertex.
+    pub agg_cost: u64,
+}
+
+impl Record for KspRow {
+    ghost use Rattle.pgr_rows.specs.Text.{several_paths};
+
+    ghost layout = { several_paths };
+
+    fn header() -> &'static str {
+        "seq,path_id,path_seq,start_vid,end_vid,node,edge,cost,agg_cost\n"
+    }
+
+    fn gather<O: Sink>(&self, out: &mut O, piece: &mut Piece) -> Result<(), Failed> {
+        gather_line(
+            out,
+            piece,
+            &[
+                Part::Number(self.seq),
+                Part::Number(self.path_id),
+                Part::Number(self.path_seq),
+                Part::Signed(self.start_vid),
+                Part::Signed(self.end_vid),
+                Part::Signed(self.node),
+                Part::Signed(self.edge),
+                Part::Number(self.cost),
+                Part::Number(self.agg_cost),
+            ],
+        )
+    }
+}
+
 /// A row of a table of costs: the cost from one vertex to another.
 #[derive(Clone, Copy, Debug, PartialEq, Eq)]
 pub struct CostRow {
@@ -229,4 +280,6 @@ pub enum Rows {
     Costs(Listed<CostRow>),
     /// Reached vertices, of the columns `seq,depth,start_vid,pred,node,edge,cost,agg_cost`.
     Reaches(Listed<ReachRow>),
+    /// Several paths for each pair, of the columns `seq,path_id,path_seq,start_vid,end_vid,node,edge,cost,agg_cost`.
+    Ksp(Listed<KspRow>),
 }

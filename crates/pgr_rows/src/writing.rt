@@ -28,6 +28,7 @@ pub fn write_table<O: Sink>(out: &mut O, rows: &Rows) -> Result<(), Failed>
         Rows::Edges(ids) => write_under(out, "edge\n", ids),
         Rows::Costs(rows) => write_records(out, rows),
         Rows::Reaches(rows) => write_records(out, rows),
+        Rows::Ksp(rows) => write_records(out, rows),
     }
 }
 
@@ -75,7 +76,7 @@ fn write_lines<O: Sink, R: Record>(out: &mut O, rows: &[R]) -> Result<(), Failed
 #[cfg(test)]
 mod tests {
     use super::*;
-    use crate::rows::{ClassRow, CostRow, PartRow, PathRow, ReachRow};
+    use crate::rows::{ClassRow, CostRow, KspRow, PartRow, PathRow, ReachRow};
     use pgr_outside::MemorySink;
     use std::test::Fail;
 
@@ -106,6 +107,29 @@ mod tests {
             want.extend_from_slice(lines.as_bytes())?;
             assert_eq!(rt; out.bytes(), want.as_slice());
         }
+        Ok(())
+    }
+
+    #[test]
+    fn a_row_of_several_paths_has_the_number_of_its_path(rt: HostRuntime) -> Result<(), Fail> {
+        let mut rows = Vec::new(rt.alloc());
+        rows.push(KspRow {
+            seq: 1,
+            path_id: 2,
+            path_seq: 3,
+            start_vid: -4,
+            end_vid: 5,
+            node: -6,
+            edge: -1,
+            cost: 8,
+            agg_cost: 9,
+        })?;
+        let mut out = MemorySink::with_room(rt.alloc(), 128, 7, Vec::new(rt.alloc()))?;
+        write_table(&mut out, &Rows::Ksp(Listed::from_vec(rows)))?;
+        assert_eq!(rt;
+            out.bytes(),
+            b"seq,path_id,path_seq,start_vid,end_vid,node,edge,cost,agg_cost\n1,2,3,-4,5,-6,-1,8,9\n".as_slice()
+        );
         Ok(())
     }
 
