@@ -117,7 +117,7 @@ impl<'a> Case<'a> {
 /// A sink with more room than any case needs, which takes a line at a write.
 fn make_sink(alloc: Global, failing: &[u64]) -> Result<MemorySink, Fail> {
     let fails = Vec::from_slice(alloc, failing)?;
-    Ok(MemorySink::with_room(alloc, 4096, 4096, fails)?)
+    Ok(MemorySink::with_room(alloc, 16384, 4096, fails)?)
 }
 
 /// The words of a line, which are separated by spaces.

@@ -20,6 +20,8 @@ mod points;
 #[cfg(test)]
 mod refusals;
 #[cfg(test)]
+mod several;
+#[cfg(test)]
 mod tables;
 #[cfg(test)]
 mod words;

@@ -23,6 +23,10 @@ pub const C: &[u8] = b"id,source,target,cost,reverse_cost\n\
     2,2,3,0,0\n\
     3,3,4,5,-1\n";
 
+/// One row with two costs: in the undirected graph two parallel links each way.
+pub const D: &[u8] = b"id,source,target,cost,reverse_cost\n\
+    1,1,2,1,3\n";
+
 /// Table A as another tool writes it: columns in another order and one more, a quoted comma, CR LF, costs with a full
 /// stop, and an empty field where there is no reverse cost.
 pub const A_EXPORTED: &[u8] = b"name,target,source,id,reverse_cost,cost\r\n\
@@ -40,6 +44,9 @@ pub const A_EXPORTED_AND_CUT: &[u8] = b"name,target,source,id,reverse_cost,cost\
 
 /// The header line of a table of paths.
 pub const PATHS: &str = "seq,path_seq,start_vid,end_vid,node,edge,cost,agg_cost\n";
+
+/// The header line of a table of several paths for each pair.
+pub const SEVERAL: &str = "seq,path_id,path_seq,start_vid,end_vid,node,edge,cost,agg_cost\n";
 
 /// The header line of a table of components.
 pub const PARTS: &str = "seq,component,node\n";

@@ -10,6 +10,10 @@ pub mod AnswersAlong
 pub mod TablesFound
 pub mod SameElements
 pub mod BlockTables
+pub mod KspTables
+pub mod RoutesById
+pub mod KspFound
+pub mod OneKspTable
 pub mod OneTable
 pub mod LeastCosts
 pub mod FirstRefusals

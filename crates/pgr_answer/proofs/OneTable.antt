@@ -29,6 +29,7 @@ use Rattle.pgr_answer.specs.Allowed.{IsAllowed, IsAllowedFor}
 use Rattle.pgr_answer.proofs.SameElements.{rising_is_one}
 use Rattle.pgr_answer.proofs.BlockTables.{one_class_table, one_point_table, one_bridge_table}
 use Rattle.pgr_answer.proofs.OneReachTable.{one_reach_table}
+use Rattle.pgr_answer.proofs.OneKspTable.{one_ksp_table}
 
 -- the order of answers is total
 answer_total : {Shown : Type 0} → IsTotalOrder (answer_cmp {Shown = Shown})
@@ -139,6 +140,7 @@ one_for function.DijkstraCostMatrix command tables = one_cost_table (IsLinkOfTab
 one_for function.DrivingDistance command tables = one_reach_table (IsLinkOfTable tables.edges command.directed) command.starts command.distance command.equicost
 one_for function.WithPoints command tables =
     one_shown_table (IsPointed tables.edges tables.points command.driving_side command.directed) (IsAsked command.starts command.ends tables.combinations) command.details
+one_for function.Ksp command tables = one_ksp_table (IsLinkOfTable tables.edges command.directed) (IsAsked command.starts command.ends tables.combinations) command.k
 
 -- one table at most is allowed for a command over tables
 pub one_is_allowed : (command : Command) (tables : Tables) (rows other : Rows) → IsAllowed command tables rows → IsAllowed command tables other → rows ≡ other

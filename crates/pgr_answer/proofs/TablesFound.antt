@@ -27,7 +27,7 @@ use Rattle.pgr_answer.specs.Found.{seen, answer_of, costs_found, walks_found}
 use Rattle.pgr_answer.proofs.AnswersAlong.{Any-map, answers-seen, answers-asked, answers-over, IsLeastBetween-over, IsLeastCost-over}
 
 -- a list seen through one function after another
-map-both : {X Y Z : Type 0} (f : Y → Z) (g : X → Y) (xs : List X) → map f (map g xs) ≡ map (λ x. f (g x)) xs
+pub map-both : {X Y Z : Type 0} (f : Y → Z) (g : X → Y) (xs : List X) → map f (map g xs) ≡ map (λ x. f (g x)) xs
 map-both f g [] = refl
 map-both f g (x ∷ xs) = ap (λ rest. f (g x) ∷ rest) (map-both f g xs)
 
@@ -85,6 +85,19 @@ module _ (names : List ℤ) (Asked : ℤ → ℤ → Type 0) (pairs : List Pair)
           Any-map (λ (answer : Answer Shown). (answer.start ≡ s) × (answer.end ≡ t)) (answer_of names) found
           (there.0, there.1, there.2, there.3, (ap (λ (p : Pair). id_at names p.start) there.4 ∙ m.2, ap (λ (p : Pair). id_at names p.end) there.4 ∙ n.2))
 
+      -- so has one without a walk, where something is found for each pair
+      pub some_of_each : ((pair : Pair) → Contains pairs pair → Any (λ f. pair_of f ≡ pair) found) → (s t : ℤ) → Asked s t → IsAnswerable (Contains links) s t
+          → Any (λ answer. (answer.start ≡ s) × (answer.end ≡ t)) (map (answer_of names) found)
+      some_of_each of_each s t asked answerable =
+          let m = number s ((are_ends.ends s).1 answerable.start_is_vertex) in
+          let n = number t ((are_ends.ends t).1 answerable.end_is_vertex) in
+          let pair : Pair = record { end = n.0; start = m.0 } in
+          let differ : m.0 ≢ n.0 = λ same. answerable.differ (sym m.2 ∙ ap (id_at names) same ∙ n.2) in
+          let here : Asked (id_at names m.0) (id_at names n.0) = subst (λ a. Asked a (id_at names n.0)) (sym m.2) (subst (λ b. Asked s b) (sym n.2) asked) in
+          let there = of_each pair ((are_pairs pair).1 (m.1, n.1, differ, here)) in
+          Any-map (λ (answer : Answer Shown). (answer.start ≡ s) × (answer.end ≡ t)) (answer_of names) found
+          (there.0, there.1, there.2, there.3, (ap (λ (p : Pair). id_at names p.start) there.4 ∙ m.2, ap (λ (p : Pair). id_at names p.end) there.4 ∙ n.2))
+
       -- ids compare as their numbers
       same_order : (a b : Found Shown) → HasNames (length names) a → HasNames (length names) b → answer_cmp (answer_of names a) (answer_of names b) ≡ found_cmp a b
       same_order a b a_named b_named =
@@ -113,7 +126,7 @@ module _ (names : List ℤ) (Asked : ℤ → ℤ → Type 0) (pairs : List Pair)
                 ∙ rise i j first before within
 
       -- what is found is the answers to the pairs that are asked for
-      answers_found : AreAnswers (Contains links) Asked Shows (map (answer_of names) found)
+      pub answers_found : AreAnswers (Contains links) Asked Shows (map (answer_of names) found)
       answers_found = record {
         asked = each Asked (λ pair is. is.3);
         answerable = each (IsAnswerable (Contains links)) answerable_ids;

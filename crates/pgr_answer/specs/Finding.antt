@@ -8,6 +8,7 @@ use Rattle.pgr_outside.specs.Lists.{IsStrictlyRising}
 use Rattle.pgr_walks.specs.declared.link.LinkOf.{LinkOf}
 use Rattle.pgr_walks.specs.Walk.{IsWalk}
 use Rattle.pgr_numbers.specs.Names.{id_at}
+use Rattle.pgr_ksp.specs.Routes.{AreFirstK}
 use Rattle.pgr_answer.specs.declared.pair.Pair.{Pair}
 use Rattle.pgr_answer.specs.declared.found.Found.{Found}
 use Rattle.pgr_answer.specs.Gathering.{pair_cmp}
@@ -47,3 +48,9 @@ Extends Has Shows names more old new =
 -- both numbers of what is found are below this one
 abbrev pub HasNames : {Shown : Type 0} → ℕ → Found Shown → Type 0
 HasNames size found = (found.start < size) × (found.end < size)
+
+-- what is found for pairs, in any order: for each of them the first K loopless routes between its numbers, over a set of links
+pub record AreRoutesOf (Has : LinkOf ℕ → Type 0) (k : ℕ) (pairs : List Pair) (found : List (Found (List (List (LinkOf ℕ))))) : Type 0 where
+  pub asked : All (λ f. Contains pairs (pair_of f)) found
+  pub first : All (λ f. AreFirstK nat_cmp Has f.start f.end k f.kept) found
+  pub every : (pair : Pair) → Contains pairs pair → Any (λ f. pair_of f ≡ pair) found

@@ -20,3 +20,7 @@ costs_found names cost found = map (λ f. seen cost (answer_of names f)) found
 -- the answers by the routes that are found, as walks between the ids that their numbers stand for
 abbrev pub walks_found : List ℤ → List (Found (List (LinkOf ℕ))) → List (Answer (List (LinkOf ℤ)))
 walks_found names found = map (λ f. seen (map (named names)) (answer_of names f)) found
+
+-- the answers by the lists of routes that are found, as walks between the ids that their numbers stand for
+abbrev pub routes_found : List ℤ → List (Found (List (List (LinkOf ℕ)))) → List (Answer (List (List (LinkOf ℤ))))
+routes_found names found = map (λ f. seen (map (map (named names))) (answer_of names f)) found

@@ -18,6 +18,7 @@ pub mod DijkstraCost
 pub mod DijkstraCostMatrix
 pub mod DrivingDistance
 pub mod WithPoints
+pub mod Ksp
 pub mod Allowed
 pub mod Networks
 pub mod Found

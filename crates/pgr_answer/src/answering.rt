@@ -16,6 +16,7 @@ use crate::dijkstra::dijkstra_rows;
 use crate::dijkstra_cost::dijkstra_cost_rows;
 use crate::dijkstra_cost_matrix::dijkstra_cost_matrix_rows;
 use crate::driving_distance::driving_distance_rows;
+use crate::ksp::ksp_table_rows;
 use crate::reading::read_tables;
 use crate::refused::Refused;
 use crate::tables::Tables;
@@ -77,5 +78,6 @@ fn allowed_rows(alloc: Global, command: &Command, tables: &Tables) -> Result<Row
         Function::DijkstraCostMatrix => dijkstra_cost_matrix_rows(alloc, command, tables),
         Function::DrivingDistance => driving_distance_rows(alloc, command, tables),
         Function::WithPoints => with_points_rows(alloc, command, tables),
+        Function::Ksp => ksp_table_rows(alloc, command, tables),
     }
 }

@@ -25,6 +25,8 @@ mod dijkstra_cost_matrix;
 mod driving_distance;
 mod found;
 mod kept;
+mod ksp;
+mod ksp_rows;
 mod laws;
 mod network;
 mod pair;
