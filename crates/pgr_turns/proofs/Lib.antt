@@ -1,0 +1,5 @@
+mod FrontLemmas
+mod AllowedSteps
+mod TurnedWalks
+mod TrieSteps
+mod AutomatonSteps

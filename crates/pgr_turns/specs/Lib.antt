@@ -1,0 +1,4 @@
+pub mod Restrictions
+pub mod Fronts
+pub mod Turned
+pub mod Trie

@@ -1,0 +1,69 @@
+ghost use Rattle.std.specs.Prelude.{◌≡◌, ◌+◌, ◌^◌, ◌<◌, IfOk};
+ghost use Rattle.pgr_turns.specs.Trie.{elements};
+
+use crate::automaton::backs_of_trie;
+use crate::trie::{Back, Trie, trie_of};
+use pgr_outside::{Listed, NoMemory};
+use std::alloc::Global;
+use std::marker::Model;
+
+/// Restrictions: lists of edge ids that no walk may have one right after another.
+///
+/// It keeps all their fronts, each once, and of each the longest shorter front that it ends with.
+/// Source: Aho and Corasick 1975.
+#[derive(Drop)]
+pub struct Turns {
+    trie: Trie,
+    backs: Vec<Back>,
+}
+
+impl Model for Turns {
+    ghost use Rattle.std.specs.Prelude.{List, ℤ};
+    ghost use Rattle.std.specs.Coded.{coded_list, coded_ℤ};
+    ghost use Rattle.std.specs.BTreeMap.{get};
+    ghost use Rattle.pgr_turns.specs.Trie.{key_cmp, IsAutomaton};
+
+    ghost Value = { List (List ℤ) };
+
+    ghost coded = { coded_list (coded_list coded_ℤ) };
+
+    ghost view = { λ turns. turns.trie.lists.items };
+
+    ghost invariant = { λ turns. IsAutomaton turns.trie.lists.items turns.trie.nodes.items (λ a e. get key_cmp turns.trie.children (a, e)) turns.backs.items };
+}
+
+impl Turns {
+    /// The restrictions of a list.
+    ///
+    /// They have fewer than 2^32 - 1 ids in all. One without an id is never met. `NoMemory` may come at any call.
+    /// Work, not proved: a few look-ups in a map for each id.
+    pub fn of_lists(alloc: Global, lists: Vec<Listed<i64>>) -> Result<Turns, NoMemory>
+        requires { 1 + elements lists.items < 2 ^ 32 }
+        ensures { IfOk result (λ turns. turns ≡ lists.items) }
+    {
+        let made = trie_of(alloc, lists)?;
+        let backs = backs_of_trie(alloc, &made.0, made.1.as_slice())?;
+        let (trie, _) = made;
+        Ok(Turns { trie, backs })
+    }
+}
+
+#[cfg(test)]
+mod tests {
+    use super::*;
+    use std::test::Fail;
+
+    #[test]
+    fn fronts_that_two_restrictions_share_stand_once(rt: HostRuntime) -> Result<(), Fail> {
+        let alloc = rt.alloc();
+        let mut lists = Vec::new(alloc);
+        for ids in [[7, 7, 8].as_slice(), [7, 9].as_slice(), [].as_slice()] {
+            lists.push(Listed::from_vec(Vec::from_slice(alloc, ids)?))?;
+        }
+        let turns = Turns::of_lists(alloc, lists)?;
+        // No id, 7, 7 7, 7 7 8 and 7 9.
+        assert_eq!(rt; turns.trie.nodes.len(), 5);
+        assert_eq!(rt; turns.backs.len(), 5);
+        Ok(())
+    }
+}
