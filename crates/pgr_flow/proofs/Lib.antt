@@ -1,0 +1,4 @@
+pub mod Sums
+pub mod KeptSets
+pub mod Across
+pub mod Examples
