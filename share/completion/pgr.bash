@@ -8,13 +8,14 @@ _pgr_options() {
     pgr_dijkstraCostMatrix) options='edges vids directed' ;;
     pgr_drivingDistance) options='edges start distance directed equicost' ;;
     pgr_withPoints) options='edges points start end combinations directed driving_side details' ;;
+    pgr_KSP) options='edges start end K combinations directed' ;;
     pgr_connectedComponents|pgr_strongComponents) options='edges' ;;
     pgr_biconnectedComponents|pgr_articulationPoints|pgr_bridges) options='edges' ;;
   esac
   echo "$options"
 }
 
-_pgr_functions='pgr_dijkstra pgr_dijkstraCost pgr_dijkstraCostMatrix pgr_drivingDistance pgr_withPoints
+_pgr_functions='pgr_dijkstra pgr_dijkstraCost pgr_dijkstraCostMatrix pgr_drivingDistance pgr_withPoints pgr_KSP
   pgr_connectedComponents pgr_strongComponents pgr_biconnectedComponents pgr_articulationPoints pgr_bridges'
 
 _pgr() {
