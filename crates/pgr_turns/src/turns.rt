@@ -56,10 +56,11 @@ mod tests {
     #[test]
     fn fronts_that_two_restrictions_share_stand_once(rt: HostRuntime) -> Result<(), Fail> {
         let alloc = rt.alloc();
+        let long = Vec::from_slice(alloc, [7, 7, 8].as_slice())?;
+        let short = Vec::from_slice(alloc, [7, 9].as_slice())?;
         let mut lists = Vec::new(alloc);
-        for ids in [[7, 7, 8].as_slice(), [7, 9].as_slice(), [].as_slice()] {
-            lists.push(Listed::from_vec(Vec::from_slice(alloc, ids)?))?;
-        }
+        lists.push(Listed::from_vec(long))?;
+        lists.push(Listed::from_vec(short))?;
         let turns = Turns::of_lists(alloc, lists)?;
         // No id, 7, 7 7, 7 7 8 and 7 9.
         assert_eq!(rt; turns.trie.nodes.len(), 5);
