@@ -62,7 +62,8 @@ pub none_at_start : (heuristic : Heuristic) (factor : Factor) (point : Point) (e
 none_at_start heuristic factor point e between =
     let x = apart_itself point.x in
     let y = apart_itself point.y in
-    let d : IsDistance heuristic 0 0 between.0 = subst (λ dx. IsDistance heuristic dx 0 between.0) x (subst (λ dy. IsDistance heuristic (apart point.x point.x) dy between.0) y between.1) in
+    let d : IsDistance heuristic 0 0 between.0 =
+    subst (λ dx. IsDistance heuristic dx 0 between.0) x (subst (λ dy. IsDistance heuristic (apart point.x point.x) dy between.0) y between.1) in
     between.2 ∙ none_over between.0 factor.over factor.under (no_distance heuristic between.0 d)
 
 -- so many points, from the first, have their estimates
@@ -75,14 +76,16 @@ module _ (heuristic : Heuristic) (factor : Factor) (from : Point) (points : List
   pub none_made : AreMade heuristic factor from points [] 0
   none_made = record { size = refl; small = λ k d below. absurd (omega arith); estimate = λ v to below e. absurd (omega arith) }
 
-  pub made_more : (values : List ℕ) (n value : ℕ) (to : Point) → AreMade heuristic factor from points values n → get_or points n None ≡ Some to → IsEstimateBetween heuristic factor from to value → value < 2 ^ 127 → AreMade heuristic factor from points (values ++ value ∷ []) (n + 1)
+  pub made_more : (values : List ℕ) (n value : ℕ) (to : Point) → AreMade heuristic factor from points values n → get_or points n None ≡ Some to
+      → IsEstimateBetween heuristic factor from to value → value < 2 ^ 127 → AreMade heuristic factor from points (values ++ value ∷ []) (n + 1)
   made_more values n value to made is between small = record {
     size = omega (arith, length-append values (value ∷ []), made.size);
     small = All-push (λ value. value < 2 ^ 127) values value made.small small;
     estimate = λ v other below e. at v other e (cases_eq v n) (λ differs. omega arith);
   }
     where
-      at : (v : ℕ) (other : Point) → get_or points v None ≡ Some other → (v ≡ n) ⊎ (v ≡ n → ⊥) → ((v ≡ n → ⊥) → v < n) → IsEstimateBetween heuristic factor from other (get_or (values ++ value ∷ []) v 0)
+      at : (v : ℕ) (other : Point) → get_or points v None ≡ Some other → (v ≡ n) ⊎ (v ≡ n → ⊥) → ((v ≡ n → ⊥) → v < n)
+          → IsEstimateBetween heuristic factor from other (get_or (values ++ value ∷ []) v 0)
       at v other e (inl same) less =
           let last : get_or (values ++ value ∷ []) v 0 ≡ value = ap (λ k. get_or (values ++ value ∷ []) k 0) (same ∙ sym made.size) ∙ get_or-append_seam values value [] 0 in
           let point : to ≡ other = same_Some to other (sym is ∙ ap (λ k. get_or points k None) (sym same) ∙ e) in
@@ -113,7 +116,8 @@ module _ (rows : List EdgeRow) (names : List ℤ) (start : ℤ) (heuristic : Heu
   start_is : point_of rows start ≡ Some from
   start_is = ap (point_of rows) (sym n_is) ∙ sym (are.point n n_below) ∙ from_is
 
-  pub estimate_at : ((v : ℕ) → v < length names → IsSomeAnd (get_or points v None) IsInPlane) → (v : ℕ) → v < length names → IsEstimate rows start heuristic factor (id_at names v) (get_or values v 0)
+  pub estimate_at : ((v : ℕ) → v < length names → IsSomeAnd (get_or points v None) IsInPlane) → (v : ℕ) → v < length names
+      → IsEstimate rows start heuristic factor (id_at names v) (get_or values v 0)
   estimate_at all v below =
       let p = point_is (get_or points v None) (all v below) in
       record {
@@ -125,8 +129,10 @@ module _ (rows : List EdgeRow) (names : List ℤ) (start : ℤ) (heuristic : Heu
       }
 
   pub zero_at : (v : ℕ) → v < length names → id_at names v ≡ start → get_or values v 0 ≡ 0
-  zero_at v below is = none_at_start heuristic factor from (get_or values v 0) (made.estimate v from (omega (arith, below, are.size)) (are.point v below ∙ ap (point_of rows) is ∙ start_is))
+  zero_at v below is = none_at_start heuristic factor from (get_or values v 0)
+      (made.estimate v from (omega (arith, below, are.size)) (are.point v below ∙ ap (point_of rows) is ∙ start_is))
 
 -- what holds of the point of each number holds of each place of the list
-pub each_in_plane : (names : List ℤ) (points : List (Option Point)) → length points ≡ length names → ((v : ℕ) → v < length names → IsSomeAnd (get_or points v None) IsInPlane) → All (λ point. IsSomeAnd point IsInPlane) points
+pub each_in_plane : (names : List ℤ) (points : List (Option Point)) → length points ≡ length names → ((v : ℕ) → v < length names → IsSomeAnd (get_or points v None) IsInPlane)
+    → All (λ point. IsSomeAnd point IsInPlane) points
 each_in_plane names points size all k d below = subst (λ o. IsSomeAnd o IsInPlane) (get_or_default points k None d below) (all k (omega (arith, below, size)))

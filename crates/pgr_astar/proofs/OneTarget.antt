@@ -25,14 +25,16 @@ module _ (size : ℕ) (Has : LinkOf ℕ → Type 0) (s t : ℕ) where
   still_holds labels same e holds = subst (λ l. HoldsLabelsFrom size Has (t ∷ []) l s) e holds
 
   -- the least walk that labels of the target t tell is the least to t
-  pub least_to_target : (labels : List (Option Label)) → HoldsLabelsFrom size Has (t ∷ []) labels s → (found : Option (List (LinkOf ℕ))) → IfSome found (IsLeastFrom size Has labels s) → IfSome found (IsLeast nat_cmp (λ walk. IsWalk Has s walk t))
+  pub least_to_target : (labels : List (Option Label)) → HoldsLabelsFrom size Has (t ∷ []) labels s → (found : Option (List (LinkOf ℕ)))
+      → IfSome found (IsLeastFrom size Has labels s) → IfSome found (IsLeast nat_cmp (λ walk. IsWalk Has s walk t))
   least_to_target labels holds None h = tt
   least_to_target labels holds (Some route) h =
       let l = h (t ∷ []) holds in
       record { belongs = to_target route l.belongs; precedes = λ other w differs. l.precedes other (from_target other w) differs }
 
   -- and where they tell none, no walk leads to t
-  pub none_to_target : (labels : List (Option Label)) → HoldsLabelsFrom size Has (t ∷ []) labels s → (found : Option (List (LinkOf ℕ))) → IfNone found (LeadsNowhere size Has labels s) → IfNone found ((walk : List (LinkOf ℕ)) → IsWalk Has s walk t → ⊥)
+  pub none_to_target : (labels : List (Option Label)) → HoldsLabelsFrom size Has (t ∷ []) labels s → (found : Option (List (LinkOf ℕ)))
+      → IfNone found (LeadsNowhere size Has labels s) → IfNone found ((walk : List (LinkOf ℕ)) → IsWalk Has s walk t → ⊥)
   none_to_target labels holds None h = λ walk w. h (t ∷ []) holds walk (from_target walk w)
   none_to_target labels holds (Some route) h = tt
 

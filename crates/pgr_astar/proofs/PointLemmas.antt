@@ -28,7 +28,8 @@ point_there v row place e = ap (option_map (cond (int_eq row.source v) first_poi
 
 -- the point of a vertex by a row more
 module _ (v : ℤ) (rows : List EdgeRow) (row : EdgeRow) (places : HasPlaces rows) where
-  found_in : (found : Option EdgeRow) → ((r : EdgeRow) → found ≡ Some r → IsSome r.place) → option_and_then (point_in v) (option_or found (find (names_vertex v) (row ∷ []))) ≡ option_or (option_and_then (point_in v) found) (point_by row v)
+  found_in : (found : Option EdgeRow) → ((r : EdgeRow) → found ≡ Some r → IsSome r.place)
+      → option_and_then (point_in v) (option_or found (find (names_vertex v) (row ∷ []))) ≡ option_or (option_and_then (point_in v) found) (point_by row v)
   found_in None has = at (names_vertex v row)
     where
       at : (b : Bool) → option_and_then (point_in v) (cond b (Some row) None) ≡ cond b (point_in v row) None
@@ -51,7 +52,9 @@ module _ (v : ℤ) (rows : List EdgeRow) (row : EdgeRow) (places : HasPlaces row
   point_of-more = ap (option_and_then (point_in v)) (find-append (names_vertex v) rows (row ∷ [])) ∙ found_in (find (names_vertex v) rows) (find_has rows places)
 
 -- both ends of a row that has a place, one after the other
-pub both_ends : (old : Option Point) (row : EdgeRow) (place : Place) (v : ℤ) → row.place ≡ Some place → option_or (option_or old (cond (int_eq row.source v) (Some (first_point place)) None)) (cond (int_eq row.target v) (Some (second_point place)) None) ≡ option_or old (point_by row v)
+pub both_ends : (old : Option Point) (row : EdgeRow) (place : Place) (v : ℤ) → row.place ≡ Some place
+    → option_or (option_or old (cond (int_eq row.source v) (Some (first_point place)) None)) (cond (int_eq row.target v) (Some (second_point place)) None) ≡ option_or old
+    (point_by row v)
 both_ends (Some point) row place v e = refl
 both_ends None row place v e = at (int_eq row.source v) (int_eq row.target v) refl
   where
@@ -104,7 +107,8 @@ module _ (names : List ℤ) (points : List (Option Point)) (id : ℤ) (point : P
 
         at : (v ≡ n) ⊎ (v ≡ n → ⊥) → get_or (set points n (Some point)) v None ≡ option_or (get_or points v None) (given (id_at names v))
         at (inl same) =
-            let new : get_or (set points n (Some point)) v None ≡ Some point = ap (λ k. get_or (set points n (Some point)) k None) same ∙ get_or-set_same points n (Some point) None (omega (arith, n_below, size)) in
+            let new : get_or (set points n (Some point)) v None ≡ Some point =
+            ap (λ k. get_or (set points n (Some point)) k None) same ∙ get_or-set_same points n (Some point) None (omega (arith, n_below, size)) in
             let old : get_or points v None ≡ None = ap (λ k. get_or points k None) same ∙ e in
             let named : id_at names v ≡ id = ap (id_at names) same ∙ is in
             new ∙ sym (ap (λ o. option_or o (given (id_at names v))) old ∙ ap given named ∙ here)
@@ -113,7 +117,8 @@ module _ (names : List ℤ) (points : List (Option Point)) (id : ℤ) (point : P
 -- a vertex that some row names has a point, in the plane
 pub has_point : (rows : List EdgeRow) (v : ℤ) → HasPlaces rows → All (λ row. IfSome row.place IsPlace) rows → IsNamedIn rows v → IsSomeAnd (point_of rows v) IsInPlane
 has_point [] v places in_plane (row, (k, below, is), named) = absurd (omega (arith, below))
-has_point (row ∷ rows) v places in_plane named = at (names_vertex v row) refl (has_point rows v (λ k d below. places (suc k) d (omega arith)) (λ k d below. in_plane (suc k) d (omega arith)))
+has_point (row ∷ rows) v places in_plane named =
+    at (names_vertex v row) refl (has_point rows v (λ k d below. places (suc k) d (omega arith)) (λ k d below. in_plane (suc k) d (omega arith)))
   where
     in_row : (place : Place) → row.place ≡ Some place → IsPlace place → IsSomeAnd (point_in v row) IsInPlane
     in_row place e p = subst (λ o. IsSomeAnd o IsInPlane) (sym (point_there v row place e)) (of_end (int_eq row.source v))
@@ -142,12 +147,14 @@ has_point (row ∷ rows) v places in_plane named = at (names_vertex v row) refl 
         from r (zero, below, is) n = absurd (false≢true (sym e ∙ ap (names_vertex v) is ∙ names r n))
         from r (suc k, below, is) n = (r, (k, omega arith, is), n)
 
-    at : (b : Bool) → names_vertex v row ≡ b → (IsNamedIn rows v → IsSomeAnd (point_of rows v) IsInPlane) → IsSomeAnd (option_and_then (point_in v) (cond b (Some row) (find (names_vertex v) rows))) IsInPlane
+    at : (b : Bool) → names_vertex v row ≡ b → (IsNamedIn rows v → IsSomeAnd (point_of rows v) IsInPlane)
+        → IsSomeAnd (option_and_then (point_in v) (cond b (Some row) (find (names_vertex v) rows))) IsInPlane
     at true e rest = here
     at false e rest = rest (later e)
 
 -- the points of names by a row more
-pub points_more : (rows : List EdgeRow) (names : List ℤ) (points after : List (Option Point)) (row : EdgeRow) → HasPlaces rows → ArePoints rows names points → length after ≡ length points → Notes names (point_by row) points after → ArePoints (rows ++ row ∷ []) names after
+pub points_more : (rows : List EdgeRow) (names : List ℤ) (points after : List (Option Point)) (row : EdgeRow) → HasPlaces rows → ArePoints rows names points
+    → length after ≡ length points → Notes names (point_by row) points after → ArePoints (rows ++ row ∷ []) names after
 points_more rows names points after row places are size notes = record {
   size = size ∙ are.size;
   point = λ v below. notes v below ∙ ap (λ o. option_or o (point_by row (id_at names v))) (are.point v below) ∙ sym (point_of-more (id_at names v) rows row places);
@@ -161,21 +168,26 @@ points_none names n e = record {
 }
 
 -- each name that some row names has its point, in the plane
-pub all_points : (rows : List EdgeRow) (names : List ℤ) (points : List (Option Point)) → HasPlaces rows → All (λ row. IfSome row.place IsPlace) rows → All (IsNamedIn rows) names → ArePoints rows names points → (v : ℕ) → v < length names → IsSomeAnd (get_or points v None) IsInPlane
-all_points rows names points places in_plane named are v below = subst (λ o. IsSomeAnd o IsInPlane) (sym (are.point v below)) (has_point rows (id_at names v) places in_plane (named v (pos 0) below))
+pub all_points : (rows : List EdgeRow) (names : List ℤ) (points : List (Option Point)) → HasPlaces rows → All (λ row. IfSome row.place IsPlace) rows
+    → All (IsNamedIn rows) names → ArePoints rows names points → (v : ℕ) → v < length names → IsSomeAnd (get_or points v None) IsInPlane
+all_points rows names points places in_plane named are v below =
+    subst (λ o. IsSomeAnd o IsInPlane) (sym (are.point v below)) (has_point rows (id_at names v) places in_plane (named v (pos 0) below))
 
 -- a row at its place has a place in the plane
 pub row_placed : (rows : List EdgeRow) (i : ℕ) (row : EdgeRow) → HasPlaces rows → slice_get rows i ≡ Some row → i < length rows → IsSome row.place
 row_placed rows i row places e below = subst (λ (r : EdgeRow). IsSome r.place) (get_or_from_slice_get rows i row row e) (places i row below)
 
 -- the points of names by the row at a place, after those before it
-pub one_row_more : (rows : List EdgeRow) (names : List ℤ) (i : ℕ) (row : EdgeRow) (points after : List (Option Point)) → HasPlaces rows → slice_get rows i ≡ Some row → i < length rows → ArePoints (take i rows) names points → length after ≡ length points → Notes names (point_by row) points after → ArePoints (take (i + 1) rows) names after
+pub one_row_more : (rows : List EdgeRow) (names : List ℤ) (i : ℕ) (row : EdgeRow) (points after : List (Option Point)) → HasPlaces rows → slice_get rows i ≡ Some row
+    → i < length rows → ArePoints (take i rows) names points → length after ≡ length points → Notes names (point_by row) points after
+    → ArePoints (take (i + 1) rows) names after
 one_row_more rows names i row points after places e below are size notes =
     let longer : take (i + 1) rows ≡ take i rows ++ row ∷ [] = take_more rows i row below ∙ ap (λ r. take i rows ++ r ∷ []) (get_or_from_slice_get rows i row row e) in
     subst (λ xs. ArePoints xs names after) (sym longer) (points_more (take i rows) names points after row (All-take (λ (r : EdgeRow). IsSome r.place) i rows places) are size notes)
 
 -- two names that are the ends of a row
-pub ends_named : (rows : List EdgeRow) (names : List ℤ) (row : EdgeRow) → slice_get rows 0 ≡ Some row → 0 < length rows → row.source ≡ pos 5 → row.target ≡ pos 7 → length names ≡ 2 → id_at names 0 ≡ pos 5 → id_at names 1 ≡ pos 7 → All (IsNamedIn rows) names
+pub ends_named : (rows : List EdgeRow) (names : List ℤ) (row : EdgeRow) → slice_get rows 0 ≡ Some row → 0 < length rows → row.source ≡ pos 5 → row.target ≡ pos 7
+    → length names ≡ 2 → id_at names 0 ≡ pos 5 → id_at names 1 ≡ pos 7 → All (IsNamedIn rows) names
 ends_named rows names row there below source target two first second = at
   where
     has : Contains rows row

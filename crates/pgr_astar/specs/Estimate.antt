@@ -26,7 +26,8 @@ IsDistance H5 dx dy distance = distance ≡ dx + dy
 
 -- an estimate between two points: the distance times the factor, and then rounded down
 abbrev pub IsEstimateBetween : Heuristic → Factor → Point → Point → ℕ → Type 0
-IsEstimateBetween heuristic factor from to estimate = (distance : ℕ) × IsDistance heuristic (apart from.x to.x) (apart from.y to.y) distance × (estimate ≡ distance * factor.over / factor.under)
+IsEstimateBetween heuristic factor from to estimate =
+    (distance : ℕ) × IsDistance heuristic (apart from.x to.x) (apart from.y to.y) distance × (estimate ≡ distance * factor.over / factor.under)
 
 -- the estimate of a vertex for a start, by where the rows of a table put both
 pub record IsEstimate (rows : List EdgeRow) (start : ℤ) (heuristic : Heuristic) (factor : Factor) (v : ℤ) (estimate : ℕ) : Type 0 where

@@ -10,10 +10,11 @@ use Rattle.pgr_astar.specs.declared.point.Point.{Point}
 abbrev pub IsInPlane : Point → Type 0
 IsInPlane point = IsCoordinate point.x × IsCoordinate point.y
 
--- the point where an edge begins, and the one where it ends
+-- the point where an edge begins
 abbrev pub first_point : Place → Point
 first_point place = record { x = place.x1; y = place.y1 }
 
+-- the point where it ends
 abbrev pub second_point : Place → Point
 second_point place = record { x = place.x2; y = place.y2 }
 

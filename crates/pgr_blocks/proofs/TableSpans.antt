@@ -9,29 +9,15 @@ use Rattle.std.proofs.lemmas.Cmp.{int_cmp_total, int_eq_equiv, on_total, then_to
 use Rattle.std.proofs.lemmas.List.{take_more, take_all, length-map, length-take-le, get_or-take}
 use Rattle.std.proofs.lemmas.Option.{get_or_from_slice_get, slice_get_within, slice_get-get_or, slice_get-map}
 use Rattle.std.proofs.lemmas.List.Elements.{Contains-get_or, Contains-append_left, Contains-push, Contains-push_cases}
-use Rattle.std.proofs.lemmas.List.Quantifiers.{all_pairs_push}
+use Rattle.std.proofs.lemmas.List.Quantifiers.{all_pairs_push, Any-push}
 use Rattle.std.proofs.lemmas.List.Sorted.{sorted_far, ranks_by, Contains-permutation, IsPermutation-sym}
 use Rattle.std.proofs.lemmas.Map.Keys.{IsDistinct-from_apart, IsDistinct-IsPermutation, apart_from_distinct}
+use Rattle.pgr_outside.proofs.Lists.{Any-append_left, Any-push_cases, take_one_more}
 use Rattle.pgr_outside.specs.Lists.{IsWithoutRepeats}
 use Rattle.pgr_table.specs.declared.row.EdgeRow.{EdgeRow}
 use Rattle.pgr_spans.specs.declared.span.Span.{Span}
 use Rattle.pgr_spans.specs.Lists.{HaveRisingEdges}
 use Rattle.pgr_blocks.specs.Spans.{HasDirection, IsSpanOfTable, span_of, AreSpansOf}
-
--- some element of a list with one more has the property where one of the list has it, or the one more
-Any-push_cases : {X : Type 0} (P : X → Type 0) (xs : List X) (y : X) → Any P (xs ++ y ∷ []) → Any P xs ⊎ P y
-Any-push_cases P xs y h =
-    ⊎_elim (λ k. inl (k.0, h.1, k.1, k.2, h.4)) (λ e. inr (subst P (sym e) h.4)) (Contains-push_cases xs y h.1 (h.0, h.2, h.3))
-
-Any-push_left : {X : Type 0} (P : X → Type 0) (xs : List X) (y : X) → Any P xs → Any P (xs ++ y ∷ [])
-Any-push_left P xs y h = let k = Contains-append_left xs (y ∷ []) h.1 (h.0, h.2, h.3) in (k.0, h.1, k.1, k.2, h.4)
-
-Any-push_right : {X : Type 0} (P : X → Type 0) (xs : List X) (y : X) → P y → Any P (xs ++ y ∷ [])
-Any-push_right P xs y p = let k = Contains-push xs y in (k.0, y, k.1, k.2, p)
-
-take_one_more : {X : Type 0} (xs : List X) (i : ℕ) (x : X) → slice_get xs i ≡ Some x → take (i + 1) xs ≡ take i xs ++ x ∷ []
-take_one_more xs i x e =
-    take_more xs i x (slice_get_within xs i x e) ∙ ap (λ y. take i xs ++ y ∷ []) (get_or_from_slice_get xs i x x e)
 
 -- exactly the spans of the rows, no two of one edge, in any order
 pub record AreSpansOfRows (rows : List EdgeRow) (spans : List Span) : Type 0 where
@@ -52,7 +38,7 @@ module _ (rows : List EdgeRow) (i : ℕ) (row : EdgeRow) (here : slice_get rows 
     each = λ span.
         let P : EdgeRow → Type 0 = λ r. HasDirection r × (span_of r ≡ span) in
         let e = take_one_more rows i row here in (
-          λ h. subst (Any P) (sym e) (Any-push_left P (take i rows) row ((are.each span).0 h)),
+          λ h. subst (Any P) (sym e) (Any-append_left P (take i rows) (row ∷ []) ((are.each span).0 h)),
           λ h. ⊎_elim (λ before. (are.each span).1 before) (λ last. absurd (none last.0)) (Any-push_cases P (take i rows) row (subst (Any P) e h)),
         );
     distinct = are.distinct;
@@ -65,8 +51,8 @@ module _ (rows : List EdgeRow) (i : ℕ) (row : EdgeRow) (here : slice_get rows 
     each = λ span.
         let P : EdgeRow → Type 0 = λ r. HasDirection r × (span_of r ≡ span) in
         let e = take_one_more rows i row here in (
-          λ h. subst (Any P) (sym e) (⊎_elim (λ before. Any-push_left P (take i rows) row ((are.each span).0 before))
-              (λ last. Any-push_right P (take i rows) row (has, last)) (Contains-push_cases old (span_of row) span h)),
+          λ h. subst (Any P) (sym e) (⊎_elim (λ before. Any-append_left P (take i rows) (row ∷ []) ((are.each span).0 before))
+              (λ last. Any-push P (take i rows) row (has, last)) (Contains-push_cases old (span_of row) span h)),
           λ h. ⊎_elim (λ before. Contains-append_left old (span_of row ∷ []) span ((are.each span).1 before))
               (λ last. subst (Contains (old ++ span_of row ∷ [])) last.1 (Contains-push old (span_of row)))
               (Any-push_cases P (take i rows) row (subst (Any P) e h)),

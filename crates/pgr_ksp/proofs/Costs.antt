@@ -7,14 +7,11 @@ use Rattle.pgr_walks.specs.declared.label.Label.{Label}
 use Rattle.pgr_walks.specs.Walk.{IsWalk, cost_of}
 use Rattle.pgr_walks.specs.Graph.{greatest, Fits}
 use Rattle.pgr_walks.specs.Label.{AtMost, IsLabelFrom, label_of}
+use Rattle.pgr_walks.proofs.LabelOrder.{AtMost-cost}
 use Rattle.pgr_search.specs.Estimates.{IsConsistent}
 use Rattle.pgr_ksp.specs.FromStart.{far, cost_or_far, cost_beyond}
 use Rattle.pgr_ksp.specs.Sound.{CanSearch}
 use Rattle.pgr_ksp.proofs.Alike.{walk-append, cost-append}
-
-at_most_cost : (a b : Label) → AtMost a b → a.cost ≤ b.cost
-at_most_cost a b (inl less) = omega arith
-at_most_cost a b (inr same) = omega (arith, same.0)
 
 module _ (Has : LinkOf ℕ → Type 0) (s : ℕ) where
   -- along a link the least cost rises by no more than the link costs
@@ -25,7 +22,7 @@ module _ (Has : LinkOf ℕ → Type 0) (s : ℕ) where
   cost_step link is_link (Some a) None la lb small = absurd (lb (la.walk ++ link ∷ []) (walk-append Has s link.from link.to la.walk (link ∷ []) la.is_walk (is_link, refl, refl)))
   cost_step link is_link (Some a) (Some b) la lb small =
       let walk = walk-append Has s link.from link.to la.walk (link ∷ []) la.is_walk (is_link, refl, refl) in
-      let most = at_most_cost b (label_of (la.walk ++ link ∷ [])) (lb.least (la.walk ++ link ∷ []) walk) in
+      let most = AtMost-cost b (label_of (la.walk ++ link ∷ [])) (lb.least (la.walk ++ link ∷ []) walk) in
       omega (arith, most, cost-append la.walk (link ∷ []), ap (λ l. l.cost) la.label_is)
 
   -- so the costs of all labels from the start are a consistent estimate

@@ -2,13 +2,11 @@
 use Rattle.std.proofs.Common.{◌≡◌, ◌≢◌, ℕ, zero, suc, ◌+◌, ◌<◌, ◌≤◌, Bool, true, false, cond, List, [], ◌∷◌, ◌++◌, length, refl, sym, ap, subst, ◌∙◌, arith, ◌⊎◌, inl, inr}
 use Rattle.std.specs.Prelude.{Contains, count_by, slice_index_or}
 use Rattle.std.proofs.lemmas.List.Sums.{sum_by-cons}
+use Rattle.pgr_outside.proofs.Lists.{Contains-later}
 
 -- one that comes first counts as one where it passes
 pub count_cons : {X : Type 0} (p : X → Bool) (x : X) (xs : List X) → count_by p (x ∷ xs) ≡ cond (p x) 1 0 + count_by p xs
 count_cons p x xs = sum_by-cons (λ y. cond (p y) 1 0) x xs
-
-later : {X : Type 0} (y : X) (xs : List X) (x : X) → Contains xs x → Contains (y ∷ xs) x
-later y xs x h = (suc h.0, omega (arith, h.1), h.2)
 
 one_at : (b : Bool) → b ≡ true → ◌≡◌ {A = ℕ} (cond b 1 0) 1
 one_at b e = ap (λ c. cond c 1 0) e
@@ -25,12 +23,12 @@ counted {X} p (x ∷ xs) h = by (p x) refl (λ some. counted p xs some)
     by true e rest = (x, (0, omega arith, refl), e)
     by false e rest =
         let found = rest (omega (arith, h, count_cons p x xs, zero_at (p x) e)) in
-        (found.0, later x xs found.0 found.1, found.2)
+        (found.0, Contains-later x xs found.0 found.1, found.2)
 
 -- none is counted where none passes
 pub none_counted : {X : Type 0} (p : X → Bool) (xs : List X) → ((x : X) → Contains xs x → p x ≡ true → ⊥) → count_by p xs ≡ 0
 none_counted p [] none = refl
-none_counted p (x ∷ xs) none = by (p x) refl (none_counted p xs (λ y has. none y (later x xs y has)))
+none_counted p (x ∷ xs) none = by (p x) refl (none_counted p xs (λ y has. none y (Contains-later x xs y has)))
   where
     by : (b : Bool) → p x ≡ b → count_by p xs ≡ 0 → count_by p (x ∷ xs) ≡ 0
     by true e rest = absurd (none x (0, omega arith, refl) e)

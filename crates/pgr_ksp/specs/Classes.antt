@@ -76,11 +76,12 @@ one b = if b then 1 else 0
 abbrev pub ArePartition : (LinkOf ℕ → Type 0) → ℕ → ℕ → List (List (LinkOf ℕ)) → List (Reverse Class) → Type 0
 ArePartition Has s t given items = (route : List (LinkOf ℕ)) → IsLooplessRoute Has s route t → count_by (has route) items + count_by (is_same route) given ≡ 1
 
--- the order of classes, the one with the first route last
+-- the order of classes, by their first routes
 abbrev pub class_cmp : Class → Class → Ordering
 class_cmp a b = ordering_then (nat_cmp a.cost b.cost) (ordering_then (nat_cmp a.hops b.hops) (ordering_then (slice_cmp (link_cmp nat_cmp) a.links.items b.links.items)
     (ordering_then (nat_cmp a.kept b.kept) (slice_cmp (link_cmp nat_cmp) a.taboo.items b.taboo.items))))
 
+-- the reverse order, in which the class with the first route is the greatest
 abbrev pub later_cmp : Reverse Class → Reverse Class → Ordering
 later_cmp a b = class_cmp b.0 a.0
 

@@ -10,10 +10,12 @@ pub record Enumeration (G : Type 0) : Type 0 where
   pub t : ℕ
   pub given : List (List (LinkOf ℕ))
 
+-- a link as the tuple of its fields
 abbrev pub link_code : Coded (LinkOf ℕ)
 link_code = code_by (ℕ × (ℤ × (ℕ × ℕ))) (coded× coded_ℕ (coded× coded_ℤ (coded× coded_ℕ coded_ℕ)))
     (λ link. (link.from, (link.edge, (link.cost, link.to)))) (λ p. record { from = p.0; edge = p.1.0; cost = p.1.1.0; to = p.1.1.1 }) (λ _. refl)
 
+-- an enumeration as the tuple of its fields
 abbrev pub enumeration_code : {G : Type 0} → Coded G → Coded (Enumeration G)
 enumeration_code {G} code = code_by (G × (ℕ × (ℕ × List (List (LinkOf ℕ))))) (coded× code (coded× coded_ℕ (coded× coded_ℕ (coded_list (coded_list link_code)))))
     (λ e. (e.graph, (e.s, (e.t, e.given)))) (λ p. record { graph = p.0; s = p.1.0; t = p.1.1.0; given = p.1.1.1 }) (λ _. refl)

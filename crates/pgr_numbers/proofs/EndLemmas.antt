@@ -1,10 +1,10 @@
 -- The ends of links: all starts and then all ends, sorted and without repeats, are the names.
-use Rattle.std.proofs.Common.{◌≡◌, ◌*◌, ◌≤◌, List, ◌++◌, length, map, get_or, refl, sym, ap, subst, ◌∙◌, inl, inr, ⊎_elim, arith, ℤ}
+use Rattle.std.proofs.Common.{◌*◌, ◌≤◌, List, ◌++◌, length, map, get_or, refl, sym, ap, subst, inl, inr, ⊎_elim, arith, ℤ}
 use Rattle.std.specs.Ordering.{int_cmp, int_eq, is_eq}
 use Rattle.std.specs.List.{dedup, All, Contains}
 use Rattle.std.specs.List.Sorted.{IsSorted, IsPermutation}
 use Rattle.std.proofs.lemmas.Cmp.{int_eq_equiv}
-use Rattle.std.proofs.lemmas.List.{get_or-map, length-map, length-append}
+use Rattle.std.proofs.lemmas.List.{length-map, length-append}
 use Rattle.std.proofs.lemmas.List.Elements.{Contains-get_or, Contains-append_left, Contains-append_right, Contains-append_cases}
 use Rattle.std.proofs.lemmas.List.Kept.{Contains-dedup, Contains-from_dedup}
 use Rattle.std.proofs.lemmas.List.Sorted.{Contains-permutation, IsPermutation-sym}
@@ -12,21 +12,11 @@ use Rattle.std.proofs.lemmas.Map.Keys.{IsDistinct-from_apart}
 use Rattle.std.proofs.lemmas.Map.Made.{length-le_from_is_member}
 use Rattle.std.proofs.lemmas.Map.Views.{list_any-from_Contains, Contains-from_any}
 use Rattle.std.specs.Cmp.{signed_Decides}
+use Rattle.pgr_outside.proofs.Lists.{Contains-map, Contains-from_map}
 use Rattle.pgr_walks.specs.declared.link.LinkOf.{LinkOf}
 use Rattle.pgr_walks.specs.Walk.{IsVertex}
 use Rattle.pgr_numbers.specs.Names.{AreEnds, IsNamed}
 use Rattle.pgr_numbers.proofs.Rising.{IsStrictlyRising-dedup}
-
--- the image of an element is among the images
-pub Contains-map : {X Y : Type 0} (f : X → Y) (xs : List X) (x : X) → Contains xs x → Contains (map f xs) (f x)
-Contains-map f xs x (k, inside, is) =
-    (k, rw length-map inside, get_or-map f xs k x (f x) inside ∙ ap f is)
-
--- what is among the images is the image of an element
-pub Contains-from_map : {X Y : Type 0} (f : X → Y) (xs : List X) (y : Y) (d : X) → Contains (map f xs) y → (x : X) × Contains xs x × (y ≡ f x)
-Contains-from_map f xs y d (k, inside, is) =
-    let within = rw length-map at inside in
-    (get_or xs k d, Contains-get_or xs k d within, sym is ∙ get_or-map f xs k d y within)
 
 -- where the links begin, and then where they lead
 abbrev pub ends_in_turn : List (LinkOf ℤ) → List ℤ
@@ -41,11 +31,11 @@ ends_to links id (link, there, at) =
     at
 
 -- and nothing else
-ends_from : (links : List (LinkOf ℤ)) (id : ℤ) (d : LinkOf ℤ) → Contains (ends_in_turn links) id → IsVertex (Contains links) id
-ends_from links id d there =
+ends_from : (links : List (LinkOf ℤ)) (id : ℤ) → Contains (ends_in_turn links) id → IsVertex (Contains links) id
+ends_from links id there =
     ⊎_elim
-    (λ start. let found = Contains-from_map (λ l. l.from) links id d start in (found.0, found.1, inl found.2))
-    (λ end. let found = Contains-from_map (λ l. l.to) links id d end in (found.0, found.1, inr found.2))
+    (λ start. let found = Contains-from_map (λ l. l.from) links id start in (found.0, found.1, inl found.2))
+    (λ end. let found = Contains-from_map (λ l. l.to) links id end in (found.0, found.1, inr found.2))
     (Contains-append_cases _ _ id there)
 
 -- the ends, sorted and without repeats
@@ -53,7 +43,7 @@ pub AreEnds-dedup : (links : List (LinkOf ℤ)) (sorted : List ℤ) → IsPermut
 AreEnds-dedup links sorted moved in_order = record {
   rise = IsStrictlyRising-dedup sorted in_order;
   ends = λ id. (
-    (λ there. ends_from links id (record { from = id; edge = id; cost = 0; to = id }) (Contains-permutation _ _ id (IsPermutation-sym _ _ moved)
+    (λ there. ends_from links id (Contains-permutation _ _ id (IsPermutation-sym _ _ moved)
         (Contains-from_dedup int_eq sorted id there))),
     (λ end. Contains-dedup int_eq_equiv (λ x y. (signed_Decides x y).0) sorted id (Contains-permutation _ _ id moved (ends_to links id end))),
   );

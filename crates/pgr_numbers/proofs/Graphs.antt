@@ -1,5 +1,5 @@
 -- Walks, least walks and labels over a graph whose links are exactly some numbered links.
-use Rattle.std.proofs.Common.{◌≡◌, ◌↔◌, ℕ, zero, suc, ◌<◌, List, [], ◌∷◌, length, map, refl, sym, ap, subst, ◌∙◌, arith, ℤ, Option, Some, None}
+use Rattle.std.proofs.Common.{◌≡◌, ◌↔◌, ℕ, zero, ◌<◌, List, [], ◌∷◌, length, map, refl, sym, ap, subst, ◌∙◌, arith, ℤ, Option, Some, None}
 use Rattle.std.specs.Ordering.{int_cmp, nat_cmp}
 use Rattle.std.specs.List.{All, AllByRecursion, Contains}
 use Rattle.std.proofs.lemmas.List.Elements.{All-contains, All-cons, All-nil}
@@ -10,7 +10,7 @@ use Rattle.pgr_walks.specs.RouteOrder.{IsLeast}
 use Rattle.pgr_walks.specs.Label.{LeadsTo, IsLabel, AtMost, label_of}
 use Rattle.pgr_walks.specs.Graph.{Fits}
 use Rattle.pgr_numbers.specs.Names.{AreNumbered, IsNumbered, id_at, named}
-use Rattle.pgr_numbers.proofs.EndLemmas.{Contains-map, Contains-from_map}
+use Rattle.pgr_outside.proofs.Lists.{Contains-map, Contains-from_map, Contains-one}
 use Rattle.pgr_numbers.proofs.Order.{cost_of-named, hops_of-named}
 use Rattle.pgr_numbers.proofs.Walks.{walk_ends, IsWalk-named, numbered_walk, Fits-numbered, IsLeast-turned}
 
@@ -31,14 +31,9 @@ Fits-lesser Has Greater more fits = record {
   });
 }
 
--- the one element of a list of one
-one_element : {X : Type 0} (x y : X) → Contains (x ∷ []) y → y ≡ x
-one_element x y (zero, inside, is) = sym is
-one_element x y (suc k, inside, is) = absurd (omega arith)
-
 -- to lead to one target is to lead to it
 IsWalk-from_one : {V : Type 0} (Has : LinkOf V → Type 0) (s t : V) (walk : List (LinkOf V)) → LeadsTo Has (t ∷ []) s walk → IsWalk Has s walk t
-IsWalk-from_one Has s t walk leads = subst (λ v. IsWalk Has s walk v) (one_element t leads.target leads.is_target) leads.is_walk
+IsWalk-from_one Has s t walk leads = subst (λ v. IsWalk Has s walk v) (Contains-one t leads.target leads.is_target) leads.is_walk
 
 one_from_IsWalk : {V : Type 0} (Has : LinkOf V → Type 0) (s t : V) (walk : List (LinkOf V)) → IsWalk Has s walk t → LeadsTo Has (t ∷ []) s walk
 one_from_IsWalk Has s t walk leads = record { target = t; is_target = (zero, omega arith, refl); is_walk = leads }
@@ -75,7 +70,7 @@ module _ (names : List ℤ) (links : List (LinkOf ℤ)) (numbers : List (LinkOf 
     LeadsTo-from_named : (walk : List (LinkOf ℤ)) → LeadsTo (Contains links) (map (id_at names) targets) (id_at names s) walk
         → (turned : List (LinkOf ℕ)) × LeadsTo Has targets s turned × (map (named names) turned ≡ walk)
     LeadsTo-from_named walk leads =
-        let found = Contains-from_map (id_at names) targets leads.target 0 leads.is_target in
+        let found = Contains-from_map (id_at names) targets leads.target leads.is_target in
         let target = found.0 in
         let to = subst (λ id. IsWalk (Contains links) (id_at names s) walk id) found.2 leads.is_walk in
         let turned = numbered_walk names links numbers numbered s target walk below (All-contains (λ t. t < length names) targets target targets_below found.1) to in (

@@ -13,7 +13,7 @@ use Rattle.pgr_walks.specs.RouteOrder.{route_cmp, IsLeast}
 use Rattle.pgr_walks.specs.Graph.{Fits}
 use Rattle.pgr_numbers.specs.Names.{AreNumbered, IsNumbered, id_at, named}
 use Rattle.pgr_numbers.specs.Numbering.{IsNumberedWalk}
-use Rattle.pgr_numbers.proofs.EndLemmas.{Contains-map, Contains-from_map}
+use Rattle.pgr_outside.proofs.Lists.{Contains-map, Contains-from_map}
 use Rattle.pgr_numbers.proofs.Order.{id_at_one_to_one, named_one_to_one, map_one_to_one, route_cmp-named, cost_of-named}
 
 -- images of elements that differ differ, so a list without repeats has images without repeats
@@ -51,7 +51,7 @@ module _ (names : List ℤ) (links : List (LinkOf ℤ)) (numbers : List (LinkOf 
   -- and each of the links is what a numbered link stands for
   number_of : (link : LinkOf ℤ) → Contains links link → (number : LinkOf ℕ) × Contains numbers number × (link ≡ named names number)
   number_of link there =
-      Contains-from_map (named names) numbers link (record { from = 0; edge = pos 0; cost = 0; to = 0 }) (subst (λ xs. Contains xs link) (sym numbered.same) there)
+      Contains-from_map (named names) numbers link (subst (λ xs. Contains xs link) (sym numbered.same) there)
 
   -- a walk over numbered links has numbered links alone
   pub walk_ends : (s t : ℕ) (walk : List (LinkOf ℕ)) → IsWalk (Contains numbers) s walk t → AllByRecursion (IsNumbered names) walk

@@ -37,7 +37,9 @@ content_of-absent (file ∷ files) name absent =
     ∙ content_of-absent files name (λ later. absent (suc later.0, omega (arith, later.1), later.2))
 
 -- a copy of as many bytes as there are, as the buffer takes and as may be, is a read at the place
-pub ReadsAt-copy : (found : Option (List ℕ)) (content before after : List ℕ) (at most count : ℕ) → found ≡ Some content → 1 ≤ most → count ≡ min most (min (length before) (length content - at)) → take count after ≡ take count (drop at content) → length after ≡ length before → IfSome found (λ told. ReadsAt told at after count)
+pub ReadsAt-copy : (found : Option (List ℕ)) (content before after : List ℕ) (at most count : ℕ) → found ≡ Some content → 1 ≤ most
+    → count ≡ min most (min (length before) (length content - at)) → take count after ≡ take count (drop at content) → length after ≡ length before
+    → IfSome found (λ told. ReadsAt told at after count)
 ReadsAt-copy found content before after at most count is_found some is_count copied same_len =
     rw is_found
     (record {

@@ -22,6 +22,7 @@ IsFront-more content before after count is_front adds =
     }
 
 -- the same, where the content may be untold
-pub IsFront_told-more : (o : Option (List ℕ)) (before after : List ℕ) (count : ℕ) → IfSome o (λ told. IsFront told before) → IfSome o (λ told. AddsPiece told before after count) → IfSome o (λ told. IsFront told after)
+pub IsFront_told-more : (o : Option (List ℕ)) (before after : List ℕ) (count : ℕ) → IfSome o (λ told. IsFront told before)
+    → IfSome o (λ told. AddsPiece told before after count) → IfSome o (λ told. IsFront told after)
 IsFront_told-more None before after count is_front adds = is_front
 IsFront_told-more (Some told) before after count is_front adds = IsFront-more told before after count is_front adds

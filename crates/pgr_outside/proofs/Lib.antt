@@ -1,3 +1,5 @@
+pub mod Lists
+pub mod Runs
 pub mod Fronts
 pub mod Pieces
 pub mod FilesByName

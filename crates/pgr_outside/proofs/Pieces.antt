@@ -4,7 +4,8 @@ use Rattle.std.proofs.lemmas.List.{take-append-drop}
 use Rattle.pgr_outside.specs.Sink.{with_added, AddsPrefix, HasGained, with_added-twice}
 
 -- the next piece was added
-pub HasGained-more : (before now after : Option (List ℕ)) (bytes rest left : List ℕ) (count : ℕ) → HasGained before now bytes rest → after ≡ with_added now (take count rest) → left ≡ drop count rest → HasGained before after bytes left
+pub HasGained-more : (before now after : Option (List ℕ)) (bytes rest left : List ℕ) (count : ℕ) → HasGained before now bytes rest → after ≡ with_added now (take count rest)
+    → left ≡ drop count rest → HasGained before after bytes left
 HasGained-more before now after bytes rest left count has_gained added is_left =
     let front = has_gained.front in
     let piece = take count rest in

@@ -2,7 +2,8 @@
 use Rattle.std.specs.Prelude.{◌≡◌, ℕ, ◌<◌, ◌⊎◌, List, length, Contains}
 use Rattle.pgr_outside.specs.Calls.{raised}
 
--- what a sink in memory is: what was written, the room that is left, the most bytes of a write, the numbers of the calls that fail, the number of the last call, and its count of faults
+-- what a sink in memory is: what was written, the room that is left, the most bytes of a write, the numbers of the calls that fail, the number of the last call, and its
+-- count of faults
 pub record SinkState : Type 0 where
   pub bytes : List ℕ
   pub room : ℕ

@@ -17,7 +17,8 @@ abbrev pub parts_text : List Part → List ℕ
 parts_text = flat_map part_text
 
 -- the text of what is left is that of the next and of those behind it
-pub texts_next : {X : Type 0} (text : X → List ℕ) (xs : List X) (i : ℕ) (x : X) → i < length xs → flat_map text (drop i xs) ≡ text (slice_index_or xs i x) ++ flat_map text (drop (i + 1) xs)
+pub texts_next : {X : Type 0} (text : X → List ℕ) (xs : List X) (i : ℕ) (x : X) → i < length xs
+    → flat_map text (drop i xs) ≡ text (slice_index_or xs i x) ++ flat_map text (drop (i + 1) xs)
 texts_next text xs i x within = ap (flat_map text) (drop-cons xs i x within ∙ ap (λ next. slice_index_or xs i x ∷ drop next xs) (sym (add-one i)))
 
 -- behind the last nothing is left

@@ -20,9 +20,15 @@ pub AddsPrefix-first : (before after : Option (List ℕ)) (first second : List �
 AddsPrefix-first before after first second (front, rest, whole, added) = (front, rest ++ second, sym (append_assoc front rest second) ∙ ap (λ bytes. bytes ++ second) whole, added)
 
 -- behind the whole first of two pieces, a front of the second is a front of both
-pub AddsPrefix-second : (before between after : Option (List ℕ)) (first second : List ℕ) → between ≡ with_added before first → AddsPrefix between after second → AddsPrefix before after (first ++ second)
-AddsPrefix-second before between after first second begun (front, rest, whole, added) =
-    (first ++ front, rest, append_assoc first front rest ∙ ap (λ bytes. first ++ bytes) whole, added ∙ ap (λ written. with_added written front) begun ∙ with_added-twice before first front)
+pub AddsPrefix-second : (before between after : Option (List ℕ)) (first second : List ℕ) → between ≡ with_added before first → AddsPrefix between after second
+    → AddsPrefix before after (first ++ second)
+AddsPrefix-second before between after first second begun (front, rest, whole, added) = (
+  first ++ front,
+  rest,
+  append_assoc first front rest ∙ ap (λ bytes. first ++ bytes) whole,
+  added ∙ ap (λ written. with_added written front) begun
+      ∙ with_added-twice before first front,
+)
 
 -- adding nothing changes nothing
 with_added-nil : (before : Option (List ℕ)) → with_added before [] ≡ before
@@ -45,7 +51,8 @@ HasGained-all before after bytes rest added empty =
     record { front = bytes; split = ap (λ back. bytes ++ back) empty ∙ append-nil bytes; gained = added }
 
 -- of the rest all but a shorter rest was added
-pub HasGained-then : (before between after : Option (List ℕ)) (bytes rest left : List ℕ) → HasGained before between bytes rest → HasGained between after rest left → HasGained before after bytes left
+pub HasGained-then : (before between after : Option (List ℕ)) (bytes rest left : List ℕ) → HasGained before between bytes rest → HasGained between after rest left
+    → HasGained before after bytes left
 HasGained-then before between after bytes rest left first second =
     record {
       front = first.front ++ second.front;
@@ -54,12 +61,14 @@ HasGained-then before between after bytes rest left first second =
     }
 
 -- the rest was added too
-pub HasGained-end : (before between after : Option (List ℕ)) (bytes rest : List ℕ) → HasGained before between bytes rest → after ≡ with_added between rest → after ≡ with_added before bytes
+pub HasGained-end : (before between after : Option (List ℕ)) (bytes rest : List ℕ) → HasGained before between bytes rest → after ≡ with_added between rest
+    → after ≡ with_added before bytes
 HasGained-end before between after bytes rest first added =
     added ∙ ap (λ written. with_added written rest) first.gained ∙ with_added-twice before first.front rest ∙ ap (with_added before) first.split
 
 -- a prefix of the rest was added
-pub HasGained-prefix : (before between after : Option (List ℕ)) (bytes rest : List ℕ) → HasGained before between bytes rest → AddsPrefix between after rest → AddsPrefix before after bytes
+pub HasGained-prefix : (before between after : Option (List ℕ)) (bytes rest : List ℕ) → HasGained before between bytes rest → AddsPrefix between after rest
+    → AddsPrefix before after bytes
 HasGained-prefix before between after bytes rest first (front, left, split, gained) =
     let all : HasGained before after bytes left = HasGained-then before between after bytes rest left first (record { front = front; split = split; gained = gained }) in
     (all.front, left, all.split, all.gained)

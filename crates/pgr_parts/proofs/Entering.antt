@@ -12,7 +12,7 @@ use Rattle.pgr_parts.specs.Standings.{is_unseen, leads_from_place}
 use Rattle.pgr_parts.specs.Trails.{Leads}
 use Rattle.pgr_parts.specs.Grouping.{State, standing_of, IsNoEarlier, IsSound, HasFollowed, AllFollowed, AllFollowedBut, StaysFound, IsFound, IsEntered}
 use Rattle.pgr_parts.proofs.TrailLemmas.{leads_to_itself}
-use Rattle.pgr_parts.proofs.WalksAndTrails.{Contains-map, Contains-from_map}
+use Rattle.pgr_outside.proofs.Lists.{Contains-map, Contains-from_map}
 
 -- the state with the vertex entered
 abbrev pub entered : List ℕ → ℕ → State → State
@@ -145,7 +145,7 @@ module _ (lists : List (List ℕ)) (S : State) (s : IsSound lists S) (v : ℕ) (
   new_lead : (lead : Lead) → Contains (leads_from_place k (get_or lists v [])) lead → (lead.from ≡ k) × Contains (get_or lists v []) lead.to
   new_lead lead there =
       let found = Contains-from_map (λ (w : ℕ). record { from = k; to = w }) (get_or lists v []) lead there in
-      (ap (λ (l : Lead). l.from) (sym found.1.1), subst (λ (l : Lead). Contains (get_or lists v []) l.to) found.1.1 found.1.0)
+      (ap (λ (l : Lead). l.from) found.2, subst (λ (l : Lead). Contains (get_or lists v []) l.to) (sym found.2) found.1)
 
   new_lead_is : (lead : Lead) → Contains T.leads lead → (lead.from < length T.path) × Contains (get_or lists (get_or T.path lead.from 0) []) lead.to
   new_lead_is lead there = ⊎_elim

@@ -1,7 +1,7 @@
 -- Walks over the links of a graph are trails over its lists, and the other way round.
-use Rattle.std.proofs.Common.{◌≡◌, ℕ, zero, suc, ◌<◌, ◌++◌, ◌⊎◌, inl, inr, List, [], ◌∷◌, Contains, length, get_or, map, refl, sym, ap, ◌∙◌, subst, arith}
-use Rattle.std.proofs.lemmas.List.{get_or-map, length-map}
+use Rattle.std.proofs.Common.{◌≡◌, ℕ, ◌<◌, ◌++◌, ◌⊎◌, inl, inr, List, [], ◌∷◌, Contains, length, get_or, sym, subst, arith}
 use Rattle.std.proofs.lemmas.List.Elements.{Contains-append_cases, Contains-append_left, Contains-append_right}
+use Rattle.pgr_outside.proofs.Lists.{Contains-map, Contains-from_map}
 use Rattle.pgr_walks.specs.declared.link.LinkOf.{LinkOf}
 use Rattle.pgr_walks.specs.Walk.{IsWalk}
 use Rattle.pgr_walks.specs.Graph.{IsLawful, IsLinkOf}
@@ -11,21 +11,6 @@ use Rattle.pgr_parts.specs.Classes.{AreClassNames, Connected, StronglyConnected}
 use Rattle.pgr_parts.specs.Trails.{IsTrail, Leads, LeadBothWays, AreWithin, AreMutual}
 use Rattle.pgr_parts.proofs.SameName.{turned_both}
 use Rattle.pgr_parts.proofs.TrailLemmas.{leads_to_itself, leads_from, has_list}
-
--- what a list has, its image has
-pub Contains-map : {X Y : Type 0} (f : X → Y) (xs : List X) (x : X) → Contains xs x → Contains (map f xs) (f x)
-Contains-map f xs x h = (let size = length-map xs f in (h.0, omega (arith, h.1), get_or-map f xs h.0 x (f x) h.1 ∙ ap f h.2))
-
-from_map_at : {X Y : Type 0} (f : X → Y) (xs : List X) (y : Y) (k : ℕ) → k < length (map f xs) → get_or (map f xs) k y ≡ y → (x : X) × (Contains xs x × (f x ≡ y))
-from_map_at f [] y k lt e = absurd (omega arith)
-from_map_at f (x ∷ xs) y zero lt e = (x, ((0, omega arith, refl), e))
-from_map_at f (x ∷ xs) y (suc k) lt e =
-    let h = from_map_at f xs y k (omega arith) e in
-    (h.0, ((suc h.1.0.0, (let below = h.1.0.1 in omega arith), h.1.0.2), h.1.1))
-
--- what the image of a list has is the image of something that the list has
-pub Contains-from_map : {X Y : Type 0} (f : X → Y) (xs : List X) (y : Y) → Contains (map f xs) y → (x : X) × (Contains xs x × (f x ≡ y))
-Contains-from_map f xs y h = from_map_at f xs y h.0 h.1 h.2
 
 -- a link of the set from v to w
 pub record IsStep (Has : LinkOf ℕ → Type 0) (v w : ℕ) : Type 0 where
@@ -96,8 +81,8 @@ module _ (size : ℕ) (outs ins : ℕ → List (LinkOf ℕ)) (lawful : IsLawful 
     head_step v w there =
         let below : v < size = (let inside = has_list lists v w there in omega (arith, heads.size_is)) in
         let found = Contains-from_map (λ (l : LinkOf ℕ). l.to) (outs v) w (subst (λ xs. Contains xs w) (heads.each v below) there) in
-        let is = is_link v below found.0 found.1.0 in
-        record { link = found.0; has = is.0; from = is.1; to = found.1.1 }
+        let is = is_link v below found.0 found.1 in
+        record { link = found.0; has = is.0; from = is.1; to = sym found.2 }
 
     head_steps : AreStepsOf (IsLinkOf size ins) lists
     head_steps = record { listed = head_listed; step = head_step }
@@ -126,12 +111,12 @@ module _ (size : ℕ) (outs ins : ℕ → List (LinkOf ℕ)) (lawful : IsLawful 
     step_by : (v w : ℕ) → v < size → Contains (heads_of (outs v)) w ⊎ Contains (tails_of (ins v)) w → IsStep (BothWays (IsLinkOf size ins)) v w
     step_by v w below (inl there) =
         let found = Contains-from_map (λ (l : LinkOf ℕ). l.to) (outs v) w there in
-        let is = is_link v below found.0 found.1.0 in
-        record { link = found.0; has = inl is.0; from = is.1; to = found.1.1 }
+        let is = is_link v below found.0 found.1 in
+        record { link = found.0; has = inl is.0; from = is.1; to = sym found.2 }
     step_by v w below (inr there) =
         let found = Contains-from_map (λ (l : LinkOf ℕ). l.from) (ins v) w there in
-        let is = is_link_into v below found.0 found.1.0 in
-        record { link = turned found.0; has = inr is.0; from = is.1; to = found.1.1 }
+        let is = is_link_into v below found.0 found.1 in
+        record { link = turned found.0; has = inr is.0; from = is.1; to = sym found.2 }
 
     near_step : (v w : ℕ) → Contains (get_or lists v []) w → IsStep (BothWays (IsLinkOf size ins)) v w
     near_step v w there =

@@ -19,6 +19,7 @@ pub record State : Type 0 where
 abbrev pub standing_of : State → ℕ → Standing
 standing_of S v = slice_index_or S.standing v Unseen
 
+-- the state that a search holds
 abbrev pub state_of : Search → State
 state_of s = record { standing = s.standing.items; path = s.path.items; firsts = s.firsts.items; leads = s.leads.items }
 

@@ -23,8 +23,8 @@ use Rattle.pgr_graph.specs.declared.links.Direction.TheVariants.{Forward, Backwa
 use Rattle.pgr_points.specs.declared.stop.Stop.{Stop}
 use Rattle.pgr_points.specs.Stops.{stop_at, stops, part, parts}
 use Rattle.pgr_points.specs.Pointed.{IsPartOfRow, IsPointed}
-use Rattle.pgr_points.proofs.Lists.{Among-left, Among-right, Among-cases}
-use Rattle.pgr_points.proofs.SameLists.{Among-from_Contains, Contains-from_Among}
+use Rattle.pgr_walks.proofs.Membership.{Among-left, Among-right, Among-cases}
+use Rattle.pgr_walks.proofs.Membership.{Among-from_Contains, Contains-from_Among}
 use Rattle.pgr_points.proofs.TableLemmas.{Among-from_Any}
 
 pub Among-map : {X Y : Type 0} (f : X → Y) (x : X) (xs : List X) → Among x xs → Among (f x) (map f xs)

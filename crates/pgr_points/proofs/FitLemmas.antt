@@ -23,8 +23,9 @@ use Rattle.pgr_points.specs.Stops.{stops, part, parts}
 use Rattle.pgr_points.specs.Pointed.{AreSeen, IsPartOfRow, IsPointed}
 use Rattle.pgr_points.specs.Places.{place_cmp}
 use Rattle.pgr_points.specs.Senses.{points_of, seen_of, parts_of_sense}
-use Rattle.pgr_points.proofs.Lists.{Among-left, Among-right, Among-flat_map}
-use Rattle.pgr_points.proofs.SameLists.{Among-from_Contains, Contains-from_Among, Rises, Rises-from_rising, rising-from_Rises}
+use Rattle.pgr_walks.proofs.Membership.{Among-left, Among-right, Among-flat_map}
+use Rattle.pgr_walks.proofs.Membership.{Among-from_Contains, Contains-from_Among}
+use Rattle.pgr_points.proofs.SameLists.{Rises, Rises-from_rising, rising-from_Rises}
 use Rattle.pgr_points.proofs.SeenLemmas.{seen_once, placed_seen, seen_good}
 use Rattle.pgr_points.proofs.RowLemmas.{sense_from}
 use Rattle.pgr_points.proofs.TableLemmas.{Among-from_Any}

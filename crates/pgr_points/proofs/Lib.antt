@@ -1,6 +1,5 @@
 pub mod Lists
 pub mod SameLists
-pub mod Runs
 pub mod Gathering
 pub mod FractionLemmas
 pub mod PlaceLemmas

@@ -17,6 +17,7 @@ use Rattle.std.proofs.lemmas.Map.Keys.{IsDistinct-from_apart, IsDistinct-IsPermu
 use Rattle.pgr_outside.specs.Lists.{IsWithoutRepeats, IsStrictlyRising}
 use Rattle.pgr_table.specs.declared.row.PointRow.{PointRow}
 use Rattle.pgr_table.specs.Points.{IsPoint}
+use Rattle.pgr_walks.proofs.Rising.{less_by_rest}
 use Rattle.pgr_points.specs.Fractions.{fraction_cmp, along_cmp}
 use Rattle.pgr_points.specs.Places.{value_cmp, place_cmp}
 use Rattle.pgr_points.specs.Senses.{points_of, AreInOrder}
@@ -42,14 +43,6 @@ same_place a b e =
     let first = then_equal (int_cmp a.edge_id b.edge_id) (ordering_then (value_cmp a b) (int_cmp a.pid b.pid)) e in
     let second = then_equal (value_cmp a b) (int_cmp a.pid b.pid) first.1 in
     same_ints a.pid b.pid second.1
-
--- what isn't equal, and of which the other way round isn't less, is less
-less_by_rest : (o p : Ordering) → o ≡ ordering_reverse p → is_eq o ≡ false → is_lt p ≡ false → o ≡ Less
-less_by_rest Less p e differ later = refl
-less_by_rest Equal p e differ later = cc
-less_by_rest Greater Less e differ later = cc
-less_by_rest Greater Equal e differ later = cc
-less_by_rest Greater Greater e differ later = cc
 
 module _ (points : List PointRow) (once : IsWithoutRepeats (map (λ (row : PointRow). row.pid) points)) where
   pids_differ : (i j : ℕ) (d : PointRow) → i < j → j < length points → (get_or points i d).pid ≡ (get_or points j d).pid → ⊥

@@ -15,8 +15,8 @@ use Rattle.pgr_points.specs.Stops.{stops, parts}
 use Rattle.pgr_points.specs.Pointed.{AreSeen, IsPartOfRow}
 use Rattle.pgr_points.specs.Places.{place_cmp}
 use Rattle.pgr_points.specs.Senses.{points_of, seen_of, parts_of_sense, parts_of_row}
-use Rattle.pgr_points.proofs.Lists.{Among-left, Among-right, Among-cases}
-use Rattle.pgr_points.proofs.SameLists.{Among-from_Contains, Contains-from_Among}
+use Rattle.pgr_walks.proofs.Membership.{Among-left, Among-right, Among-cases}
+use Rattle.pgr_walks.proofs.Membership.{Among-from_Contains, Contains-from_Among}
 use Rattle.pgr_points.proofs.SeenLemmas.{seen_once, placed_seen}
 
 module _ (row : EdgeRow) (direction : Direction) (seen : List PointRow) (link : LinkOf ℤ) where

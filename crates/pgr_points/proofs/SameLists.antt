@@ -5,16 +5,8 @@ use Rattle.std.specs.List.{Contains}
 use Rattle.pgr_outside.specs.Lists.{IsStrictlyRising}
 use Rattle.std.proofs.lemmas.Option.{slice_get-get_or}
 use Rattle.std.proofs.lemmas.List.{get_or_default}
-use Rattle.pgr_walks.proofs.Repeats.{Among, Among-from_get}
-
--- membership by places, and by cases on the list
-pub Among-from_Contains : {X : Type 0} (x : X) (xs : List X) → Contains xs x → Among x xs
-Among-from_Contains x xs h = Among-from_get x xs h.0 (slice_get-get_or xs h.0 x h.1 ∙ ap Some h.2)
-
-pub Contains-from_Among : {X : Type 0} (x : X) (xs : List X) → Among x xs → Contains xs x
-Contains-from_Among x [] h = absurd h
-Contains-from_Among x (y ∷ ys) (inl e) = (0, omega arith, e)
-Contains-from_Among x (y ∷ ys) (inr h) = let r = Contains-from_Among x ys h in (suc r.0, omega (arith, r.1), r.2)
+use Rattle.pgr_walks.proofs.Repeats.{Among}
+use Rattle.pgr_walks.proofs.Membership.{Among-from_Contains, Contains-from_Among}
 
 module _ {X : Type 0} (cmp : X → X → Ordering) where
   -- each element comes before those behind it, by cases on the list

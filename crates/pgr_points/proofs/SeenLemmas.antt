@@ -17,8 +17,9 @@ use Rattle.pgr_points.specs.Fractions.{fraction_cmp, along_cmp}
 use Rattle.pgr_points.specs.Pointed.{IsSeen, AreSeen}
 use Rattle.pgr_points.specs.Places.{place_cmp}
 use Rattle.pgr_points.specs.Senses.{points_of, seen_of}
-use Rattle.pgr_points.proofs.Lists.{Among-filter, Among-from_filter}
-use Rattle.pgr_points.proofs.SameLists.{Among-from_Contains, Contains-from_Among, Rises-from_rising, one_rising}
+use Rattle.pgr_walks.proofs.Membership.{Among-filter, Among-from_filter}
+use Rattle.pgr_walks.proofs.Membership.{Among-from_Contains, Contains-from_Among}
+use Rattle.pgr_points.proofs.SameLists.{Rises-from_rising, one_rising}
 use Rattle.pgr_points.proofs.PlaceLemmas.{points_rise, is_edge, edge_is}
 
 -- of two points at most one comes before the other

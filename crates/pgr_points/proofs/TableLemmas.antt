@@ -21,8 +21,9 @@ use Rattle.pgr_table.specs.Points.{IsPoint}
 use Rattle.pgr_points.specs.Pointed.{IsPartOfRow, IsPointed}
 use Rattle.pgr_points.specs.Places.{place_cmp}
 use Rattle.pgr_points.specs.Senses.{points_of, parts_of_row}
-use Rattle.pgr_points.proofs.Lists.{Among-flat_map, Among-from_flat_map, flat_map_one_more}
-use Rattle.pgr_points.proofs.SameLists.{Among-from_Contains, Contains-from_Among}
+use Rattle.pgr_walks.proofs.Membership.{Among-flat_map, Among-from_flat_map}
+use Rattle.pgr_points.proofs.Lists.{flat_map_one_more}
+use Rattle.pgr_walks.proofs.Membership.{Among-from_Contains, Contains-from_Among}
 use Rattle.pgr_points.proofs.RowLemmas.{row_from, row_to}
 
 -- some element has the property, by cases on the list

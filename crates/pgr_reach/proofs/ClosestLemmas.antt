@@ -2,6 +2,7 @@
 use Rattle.std.proofs.Common.{◌≡◌, ◌⊎◌, inl, inr, ⊎_elim, ℕ, zero, suc, ◌+◌, ◌<◌, ◌≤◌, List, [], ◌∷◌, Bool, true, false, Option, Some, None, ◌&&◌, Contains, refl, sym, ap, ◌∙◌, subst, arith, if◌then◌else◌, fold, nat_eq}
 use Rattle.std.specs.Prelude.{◌↔◌, ◌==◌, ◌≢◌}
 use Rattle.std.specs.declared.cmp.Ordering.TheVariants.{Less}
+use Rattle.pgr_outside.proofs.Lists.{Contains-here, Contains-later, Contains-cons_cases, Contains-none}
 use Rattle.pgr_reach.specs.declared.reach.ReachedOf.{ReachedOf}
 use Rattle.pgr_reach.specs.declared.reach.Reach.{Reach}
 use Rattle.pgr_reach.specs.declared.closest.Closest.{Closest}
@@ -10,20 +11,6 @@ use Rattle.std.specs.Prelude.{slice_index_or, length, map}
 use Rattle.std.specs.BTreeMap.{BTreeMap, get}
 use Rattle.std.specs.Ordering.{nat_cmp}
 use Rattle.pgr_reach.specs.Equicost.{IsClosest, AreClosest, listed, with_kept}
-
--- the first element is contained, and so is one of the others; there is no other
-pub here : {X : Type 0} (x : X) (xs : List X) → Contains (x ∷ xs) x
-here x xs = (0, omega arith, refl)
-
-pub there : {X : Type 0} (x : X) (xs : List X) (y : X) → Contains xs y → Contains (x ∷ xs) y
-there x xs y (k, within, is) = (suc k, omega arith, is)
-
-pub first_or_later : {X : Type 0} (x : X) (xs : List X) (y : X) → Contains (x ∷ xs) y → (x ≡ y) ⊎ Contains xs y
-first_or_later x xs y (zero, within, is) = inl is
-first_or_later x xs y (suc k, within, is) = inr (k, omega arith, is)
-
-pub none_in : {X : Type 0} (x : X) → Contains [] x → ⊥
-none_in x (k, within, is) = omega arith
 
 -- what was found is at most a cost and root, by cost and then by root
 abbrev pub IsNoFurther : Closest → ℕ → ℕ → Type 0
@@ -72,20 +59,24 @@ module _ (Has Now : ℕ → ReachedOf ℕ → Type 0) (v root : ℕ) (row : Reac
     (new : Now root row)
     (cases : (r : ℕ) (x : ReachedOf ℕ) → Now r x → Has r x ⊎ ((r ≡ root) × (x ≡ row))) where
   -- it is closer than all that was found
-  taken : (found : Option Closest) → IsBest Has v found → row.node ≡ v → is_closer found row.label.cost root ≡ true → IsFoundOf Now v (record { cost = row.label.cost; root = root })
+  taken : (found : Option Closest) → IsBest Has v found → row.node ≡ v → is_closer found row.label.cost root ≡ true
+      → IsFoundOf Now v (record { cost = row.label.cost; root = root })
   taken None best node e = record {
     row = row;
     has = new;
     node = node;
     cost = refl;
-    least = λ r x now at. ⊎_elim (λ old. absurd (best r x old at)) (λ p. let P : (ReachedOf ℕ) → Type 0 = λ y. IsNoFurther (record { cost = row.label.cost; root = root }) y.label.cost r in subst P (sym p.1) (inr (refl, omega (arith, p.0)))) (cases r x now);
+    least = λ r x now at. ⊎_elim (λ old. absurd (best r x old at)) (λ p. let P : (ReachedOf ℕ) → Type 0 =
+        λ y. IsNoFurther (record { cost = row.label.cost; root = root }) y.label.cost r in subst P (sym p.1) (inr (refl, omega (arith, p.0)))) (cases r x now);
   }
   taken (Some found) best node e = record {
     row = row;
     has = new;
     node = node;
     cost = refl;
-    least = λ r x now at. ⊎_elim (λ old. onward _ found _ _ (closer found _ _ e) (best.least r x old at)) (λ p. let P : (ReachedOf ℕ) → Type 0 = λ y. IsNoFurther (record { cost = row.label.cost; root = root }) y.label.cost r in subst P (sym p.1) (inr (refl, omega (arith, p.0)))) (cases r x now);
+    least = λ r x now at. ⊎_elim (λ old. onward _ found _ _ (closer found _ _ e) (best.least r x old at))
+        (λ p. let P : (ReachedOf ℕ) → Type 0 = λ y. IsNoFurther (record { cost = row.label.cost; root = root }) y.label.cost r in
+        subst P (sym p.1) (inr (refl, omega (arith, p.0)))) (cases r x now);
   }
 
   -- it is for another vertex, or no closer
@@ -121,9 +112,9 @@ rows_best : (v root : ℕ) (rows : List (ReachedOf ℕ)) (Has Now : ℕ → Reac
     → IsBest Has v found
     → IsBest Now v (after_rows v root found rows)
 rows_best v root [] Has Now found gained new cases best =
-    same_best Has Now v found (record { gained = gained; lost = λ r x now. ⊎_elim (λ old. old) (λ p. absurd (none_in x p.1)) (cases r x now) }) best
+    same_best Has Now v found (record { gained = gained; lost = λ r x now. ⊎_elim (λ old. old) (λ p. absurd (Contains-none x p.1)) (cases r x now) }) best
 rows_best v root (row ∷ rows) Has Now found gained new cases best =
-    rows_best v root rows Mid Now (after_row v root found row) gained_mid (λ x among. new x (there row rows x among)) cases_mid
+    rows_best v root rows Mid Now (after_row v root found row) gained_mid (λ x among. new x (Contains-later row rows x among)) cases_mid
     (one_more Has Mid v root row (λ r x old. inl old) (inr (refl, refl)) (λ r x mid. mid) found best)
   where
     Mid : ℕ → ReachedOf ℕ → Type 0
@@ -131,10 +122,10 @@ rows_best v root (row ∷ rows) Has Now found gained new cases best =
 
     gained_mid : (r : ℕ) (x : ReachedOf ℕ) → Mid r x → Now r x
     gained_mid r x (inl old) = gained r x old
-    gained_mid r x (inr p) = let P : ReachedOf ℕ → Type 0 = Now r in subst P (sym p.1) (subst (λ q. Now q row) (sym p.0) (new row (here row rows)))
+    gained_mid r x (inr p) = let P : ReachedOf ℕ → Type 0 = Now r in subst P (sym p.1) (subst (λ q. Now q row) (sym p.0) (new row (Contains-here row rows)))
 
     cases_mid : (r : ℕ) (x : ReachedOf ℕ) → Now r x → Mid r x ⊎ ((r ≡ root) × Contains rows x)
-    cases_mid r x now = ⊎_elim (λ old. inl (inl old)) (λ p. ⊎_elim (λ is. inl (inr (p.0, sym is))) (λ later. inr (p.0, later)) (first_or_later row rows x p.1)) (cases r x now)
+    cases_mid r x now = ⊎_elim (λ old. inl (inl old)) (λ p. ⊎_elim (λ is. inl (inr (p.0, sym is))) (λ later. inr (p.0, later)) (Contains-cons_cases row rows x p.1)) (cases r x now)
 
 -- more roots
 reaches_best : (v : ℕ) (reaches : List Reach) (Has Now : ℕ → ReachedOf ℕ → Type 0) (found : Option Closest)
@@ -144,10 +135,10 @@ reaches_best : (v : ℕ) (reaches : List Reach) (Has Now : ℕ → ReachedOf ℕ
     → IsBest Has v found
     → IsBest Now v (after_reaches v found reaches)
 reaches_best v [] Has Now found gained new cases best =
-    same_best Has Now v found (record { gained = gained; lost = λ r x now. ⊎_elim (λ old. old) (λ p. absurd (none_in _ p.1.0)) (cases r x now) }) best
+    same_best Has Now v found (record { gained = gained; lost = λ r x now. ⊎_elim (λ old. old) (λ p. absurd (Contains-none _ p.1.0)) (cases r x now) }) best
 reaches_best v (reach ∷ reaches) Has Now found gained new cases best =
     reaches_best v reaches Mid Now (after_rows v reach.root found reach.rows.items) gained_mid
-    (λ r x p. new r x (p.0, (there (listed reach) (map listed reaches) (r, p.0) p.1.0, p.1.1))) cases_mid
+    (λ r x p. new r x (p.0, (Contains-later (listed reach) (map listed reaches) (r, p.0) p.1.0, p.1.1))) cases_mid
     (rows_best v reach.root reach.rows.items Has Mid found (λ r x old. inl old) (λ x among. inr (refl, among)) (λ r x mid. mid) best)
   where
     Mid : ℕ → ReachedOf ℕ → Type 0
@@ -155,14 +146,22 @@ reaches_best v (reach ∷ reaches) Has Now found gained new cases best =
 
     gained_mid : (r : ℕ) (x : ReachedOf ℕ) → Mid r x → Now r x
     gained_mid r x (inl old) = gained r x old
-    gained_mid r x (inr p) = new r x (reach.rows.items, (subst (λ q. Contains (listed reach ∷ map listed reaches) (q, reach.rows.items)) (sym p.0) (here (listed reach) (map listed reaches)), p.1))
+    gained_mid r x (inr p) =
+        new r x (
+          reach.rows.items,
+          (
+            subst (λ q. Contains (listed reach ∷ map listed reaches) (q, reach.rows.items)) (sym p.0)
+                (Contains-here (listed reach) (map listed reaches)),
+            p.1,
+          ),
+        )
 
     cases_mid : (r : ℕ) (x : ReachedOf ℕ) → Now r x → Mid r x ⊎ IsListed (map listed reaches) r x
     cases_mid r x now =
         ⊎_elim (λ old. inl (inl old))
         (λ p. ⊎_elim (λ is. let P : ℕ × List (ReachedOf ℕ) → Type 0 = λ y. (y.0 ≡ reach.root) × Contains reach.rows.items x in
         inl (inr (sym (ap (λ y. y.0) is), subst (λ ys. Contains ys x) (sym (ap (λ y. y.1) is)) p.1.1)))
-        (λ later. inr (p.0, (later, p.1.1))) (first_or_later (listed reach) (map listed reaches) (r, p.0) p.1.0))
+        (λ later. inr (p.0, (later, p.1.1))) (Contains-cons_cases (listed reach) (map listed reaches) (r, p.0) p.1.0))
         (cases r x now)
 
 -- of all rows

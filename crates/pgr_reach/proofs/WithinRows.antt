@@ -11,6 +11,7 @@ use Rattle.std.proofs.lemmas.List.Sorted.{sorted_far, ranks_by, All-permutation,
 use Rattle.std.proofs.lemmas.List.Elements.{All-contains}
 use Rattle.std.proofs.lemmas.Map.Keys.{IsDistinct-from_apart, IsDistinct-IsPermutation, apart_from_distinct}
 use Rattle.pgr_outside.specs.Lists.{IsStrictlyRising}
+use Rattle.pgr_outside.proofs.Lists.{Contains-map, Contains-one}
 use Rattle.pgr_walks.specs.declared.link.LinkOf.{LinkOf}
 use Rattle.pgr_walks.specs.declared.label.Label.{Label}
 use Rattle.pgr_walks.specs.Link.{step_cmp, entry_cmp}
@@ -19,6 +20,8 @@ use Rattle.pgr_walks.specs.Walk.{IsWalk}
 use Rattle.pgr_walks.specs.Label.{AtMost, LeadsTo, IsLabel, IsLeastLabel, IsLabelFrom, IsLeastLabelFrom, label_of, beyond}
 use Rattle.pgr_walks.specs.Graph.{IsLinkOf, IsLawful}
 use Rattle.pgr_walks.specs.Reversed.{turned}
+use Rattle.pgr_walks.proofs.LabelOrder.{AtMost-both}
+use Rattle.pgr_walks.proofs.Rising.{less_by_rest}
 use Rattle.pgr_search.specs.FinalLabels.{label_at, HoldsLabelsUpTo, KeepsLimit}
 use Rattle.pgr_search.specs.Tight.{IsTight, IsLeastTight}
 use Rattle.pgr_reach.specs.declared.reach.ReachedOf.{ReachedOf}
@@ -27,49 +30,26 @@ use Rattle.pgr_reach.specs.Within.{AreWithin, IsRowWithin, IsRootRow, IsTreeRow,
 use Rattle.pgr_reach.specs.LabelRows.{IsLabelRow, IsLinkRow, HasLeastTight, HasNoTight, AreRowsBelow}
 use Rattle.pgr_reach.proofs.LabelRowLemmas.{All-follows}
 
--- two labels that are at most each other are the same
-at_most_both : (a b : Label) → AtMost a b → AtMost b a → a ≡ b
-at_most_both a b (inl h) (inl k) = absurd (omega arith)
-at_most_both a b (inl h) (inr k) = absurd (omega (arith, k.0))
-at_most_both a b (inr h) (inl k) = absurd (omega (arith, h.0))
-at_most_both a b (inr h) (inr k) = let hops : a.hops ≡ b.hops = omega (arith, h.1, k.1) in λ i. record { cost = h.0 i; hops = hops i }
-
 -- a label is not beyond itself
 not_beyond : (a : Label) (link : LinkOf ℕ) → AtMost (beyond a link) a → ⊥
 not_beyond a link (inl h) = omega arith
 not_beyond a link (inr h) = omega (arith, h.0, h.1)
 
 one_label : (Has : LinkOf ℕ → Type 0) (root v : ℕ) (a b : Label) → IsLeastLabelFrom Has root v a → IsLeastLabelFrom Has root v b → a ≡ b
-one_label Has root v a b is_a is_b = at_most_both a b (subst (AtMost a) is_b.label_is (is_a.least is_b.walk is_b.is_walk)) (subst (AtMost b) is_a.label_is (is_b.least is_a.walk is_a.is_walk))
+one_label Has root v a b is_a is_b =
+    AtMost-both a b (subst (AtMost a) is_b.label_is (is_a.least is_b.walk is_b.is_walk)) (subst (AtMost b) is_a.label_is (is_b.least is_a.walk is_a.is_walk))
 
--- the turned image of a link stands among turned links
-turned_among : (links : List (LinkOf ℕ)) (link : LinkOf ℕ) → Contains links link → Contains (map turned links) (turned link)
-turned_among [] link (k, inside, is) = absurd (omega arith)
-turned_among (x ∷ links) link (zero, inside, is) = (0, omega arith, ap turned is)
-turned_among (x ∷ links) link (suc k, inside, is) = let later = turned_among links link (k, omega arith, is) in (suc later.0, omega (arith, later.1), later.2)
-
+-- what stands among turned links is the turned image of a link
 among_turned : (links : List (LinkOf ℕ)) (link : LinkOf ℕ) → Contains (map turned links) link → Contains links (turned link)
 among_turned [] link (k, inside, is) = absurd (omega arith)
 among_turned (x ∷ links) link (zero, inside, is) = (0, omega arith, ap turned is)
 among_turned (x ∷ links) link (suc k, inside, is) = let later = among_turned links link (k, omega arith, is) in (suc later.0, omega (arith, later.1), later.2)
-
-one_target : (t v : ℕ) → Contains (t ∷ []) v → v ≡ t
-one_target t v (zero, inside, is) = sym is
-one_target t v (suc k, inside, is) = absurd (omega arith)
 
 some_there : (o : Option Label) (label : Label) → o ≡ Some label → IsSome o
 some_there o label e = subst IsSome (sym e) refl
 
 same_some : (a b : Label) (o : Option Label) → o ≡ Some a → o ≡ Some b → a ≡ b
 same_some a b o e f = cc
-
--- strict order from order and difference
-less_by_rest : (o p : Ordering) → o ≡ ordering_reverse p → is_eq o ≡ false → is_lt p ≡ false → o ≡ Less
-less_by_rest Less p e differ later = refl
-less_by_rest Equal p e differ later = cc
-less_by_rest Greater Less e differ later = cc
-less_by_rest Greater Equal e differ later = cc
-less_by_rest Greater Greater e differ later = cc
 
 row_total : IsTotalOrder (row_cmp nat_cmp)
 row_total = then_total (on_total (λ (row : ReachedOf ℕ). row.label.cost) nat_cmp_total) (on_total (λ (row : ReachedOf ℕ). row.node) nat_cmp_total)
@@ -83,11 +63,13 @@ apart_nodes a b e = by (nat_cmp a.label.cost b.label.cost)
     by Greater = refl
 
 -- rows of different vertices, once sorted, rise strictly
-rows_rise : (rows sorted : List (ReachedOf ℕ)) → IsStrictlyRising (λ a b. nat_cmp a.node b.node) rows → IsPermutation rows sorted → IsSorted (row_cmp nat_cmp) sorted → IsStrictlyRising (row_cmp nat_cmp) sorted
+rows_rise : (rows sorted : List (ReachedOf ℕ)) → IsStrictlyRising (λ a b. nat_cmp a.node b.node) rows → IsPermutation rows sorted → IsSorted (row_cmp nat_cmp) sorted
+    → IsStrictlyRising (row_cmp nat_cmp) sorted
 rows_rise rows sorted rise moved in_order i j d before inside =
     let distinct = IsDistinct-from_apart (eq_by_cmp (row_cmp nat_cmp)) rows (λ i j d before inside. apart_nodes (get_or rows i d) (get_or rows j d) (rise i j d before inside)) in
     let differ = IsDistinct-IsPermutation (eq_by_cmp (row_cmp nat_cmp)) (eq_by_cmp_equiv row_total).symm rows sorted moved distinct in
-    less_by_rest (row_cmp nat_cmp (get_or sorted i d) (get_or sorted j d)) (row_cmp nat_cmp (get_or sorted j d) (get_or sorted i d)) (row_total.antisymm (get_or sorted i d) (get_or sorted j d)) (apart_from_distinct (eq_by_cmp (row_cmp nat_cmp)) sorted i j d differ before inside)
+    less_by_rest (row_cmp nat_cmp (get_or sorted i d) (get_or sorted j d)) (row_cmp nat_cmp (get_or sorted j d) (get_or sorted i d))
+    (row_total.antisymm (get_or sorted i d) (get_or sorted j d)) (apart_from_distinct (eq_by_cmp (row_cmp nat_cmp)) sorted i j d differ before inside)
     (sorted_far (λ x y. is_lt (row_cmp nat_cmp x y)) (ranks_by row_total (λ x. x)) sorted in_order i j d (omega arith) inside)
 
 -- what some row has is had by some row after a permutation
@@ -129,7 +111,8 @@ module _ (size : ℕ) (outs ins : ℕ → List (LinkOf ℕ)) (lawful : IsLawful 
   }
 
   -- and one that ends a least walk to a labelled vertex is tight
-  tight_back : (v : ℕ) (here : Label) → v < size → label_at labels v ≡ Some here → (link : LinkOf ℕ) → Has link → link.to ≡ v → IsTightFrom Has root link → IsTight labels (turned link)
+  tight_back : (v : ℕ) (here : Label) → v < size → label_at labels v ≡ Some here → (link : LinkOf ℕ) → Has link → link.to ≡ v → IsTightFrom Has root link
+      → IsTight labels (turned link)
   tight_back v here below here_is link has leads tight = by (label_at labels link.from) refl
     where
       here_from : here ≡ beyond tight.before link
@@ -152,7 +135,8 @@ module _ (size : ℕ) (outs ins : ℕ → List (LinkOf ℕ)) (lawful : IsLawful 
       }
 
   -- the first tight link is the tree link
-  tree_link : (row : ReachedOf ℕ) → row.node < size → label_at labels row.node ≡ Some row.label → (has : HasLeastTight (back_outs row.node) labels row) → IsTreeLink nat_cmp Has root row.node (turned has.link)
+  tree_link : (row : ReachedOf ℕ) → row.node < size → label_at labels row.node ≡ Some row.label → (has : HasLeastTight (back_outs row.node) labels row)
+      → IsTreeLink nat_cmp Has root row.node (turned has.link)
   tree_link row below label_is has = record {
     has = (has_link row.node below has.link has.least.among).0;
     leads = (has_link row.node below has.link has.least.among).1;
@@ -162,9 +146,12 @@ module _ (size : ℕ) (outs ins : ℕ → List (LinkOf ℕ)) (lawful : IsLawful 
     where
       none_less : (other : LinkOf ℕ) → Has other → other.to ≡ row.node → IsTightFrom Has root other → entry_cmp nat_cmp other (turned has.link) ≢ Less
       none_less other has_other leads tight is_less =
-          let among : Contains (back_outs row.node) (turned other) = subst (λ ls. Contains ls (turned other)) (sym (outs_are row.node)) (turned_among (ins row.node) other (subst (λ w. Contains (ins w) other) leads has_other.1)) in
-          let differ : turned other ≢ has.link = λ e. differ_by (entry_cmp nat_cmp other (turned has.link)) is_less (ap (λ l. entry_cmp nat_cmp (turned l) (turned has.link)) e ∙ tied_itself (entry_total nat_cmp nat_cmp_total) (turned has.link)) in
-          both_less (entry_cmp nat_cmp other (turned has.link)) (entry_cmp nat_cmp (turned has.link) other) ((entry_total nat_cmp nat_cmp_total).antisymm other (turned has.link)) is_less
+          let among : Contains (back_outs row.node) (turned other) =
+          subst (λ ls. Contains ls (turned other)) (sym (outs_are row.node)) (Contains-map turned (ins row.node) other (subst (λ w. Contains (ins w) other) leads has_other.1)) in
+          let differ : turned other ≢ has.link = λ e. differ_by (entry_cmp nat_cmp other (turned has.link)) is_less
+          (ap (λ l. entry_cmp nat_cmp (turned l) (turned has.link)) e ∙ tied_itself (entry_total nat_cmp nat_cmp_total) (turned has.link)) in
+          both_less (entry_cmp nat_cmp other (turned has.link)) (entry_cmp nat_cmp (turned has.link) other)
+          ((entry_total nat_cmp nat_cmp_total).antisymm other (turned has.link)) is_less
           (has.least.least (turned other) among (tight_back row.node row.label below label_is other has_other leads tight) differ)
         where
           differ_by : (o : Ordering) → o ≡ Less → o ≡ Equal → ⊥
@@ -195,7 +182,8 @@ module _ (size : ℕ) (outs ins : ℕ → List (LinkOf ℕ)) (lawful : IsLawful 
 
       at_root : HasNoTight (back_outs row.node) labels root row → IsRootRow root row ⊎ IsTreeRow nat_cmp Has root row
       at_root none = inl (record {
-        node = ⊎_elim (one_target root row.node) (λ tight. absurd (none.none tight.0 tight.1.0 tight.1.1)) (some_tight row.node (some_there (label_at labels row.node) row.label is.label));
+        node = ⊎_elim (Contains-one root row.node)
+            (λ tight. absurd (none.none tight.0 tight.1.0 tight.1.1)) (some_tight row.node (some_there (label_at labels row.node) row.label is.label));
         pred = none.pred;
         edge = none.edge;
         cost = none.cost;
@@ -219,7 +207,8 @@ module _ (size : ℕ) (outs ins : ℕ → List (LinkOf ℕ)) (lawful : IsLawful 
       by (Some here) e = (here, e)
 
   -- all rows
-  pub rows_within : (rows sorted : List (ReachedOf ℕ)) → AreRowsBelow back_outs labels root back_size rows → IsPermutation rows sorted → IsSorted (row_cmp nat_cmp) sorted → AreWithin nat_cmp Has root limit sorted
+  pub rows_within : (rows sorted : List (ReachedOf ℕ)) → AreRowsBelow back_outs labels root back_size rows → IsPermutation rows sorted → IsSorted (row_cmp nat_cmp) sorted
+      → AreWithin nat_cmp Has root limit sorted
   rows_within rows sorted are moved in_order = record {
     each = All-permutation (IsRowWithin nat_cmp Has root limit) rows sorted moved (All-follows _ _ rows row_within are.each);
     every = λ v label least within.

@@ -22,4 +22,5 @@ with_kept keeps list = (list.0, filter (keeps list.0) list.1)
 pub record AreClosest {V : Type 0} (vertex_cmp : V → V → Ordering) (old new : List (V × List (ReachedOf V))) : Type 0 where
   pub keeps : V → ReachedOf V → Bool
   pub lists : new ≡ map (with_kept keeps) old
-  pub exactly : (root : V) (rows : List (ReachedOf V)) (row : ReachedOf V) → Contains old (root, rows) → Contains rows row → (keeps root row ≡ true) ↔ IsClosest vertex_cmp old root row
+  pub exactly : (root : V) (rows : List (ReachedOf V)) (row : ReachedOf V) → Contains old (root, rows) → Contains rows row
+      → (keeps root row ≡ true) ↔ IsClosest vertex_cmp old root row

@@ -48,7 +48,8 @@ pub record HasWalk (Has : LinkOf ℕ → Type 0) (targets : List ℕ) (v : ℕ) 
   pub label_is : label_of walk ≡ label
 
 -- a link before a walk
-HasWalk-cons : (Has : LinkOf ℕ → Type 0) (targets : List ℕ) (label : Label) (link : LinkOf ℕ) → Has link → HasWalk Has targets link.to label → HasWalk Has targets link.from (beyond label link)
+HasWalk-cons : (Has : LinkOf ℕ → Type 0) (targets : List ℕ) (label : Label) (link : LinkOf ℕ) → Has link → HasWalk Has targets link.to label
+    → HasWalk Has targets link.from (beyond label link)
 HasWalk-cons Has targets label link has rest = record {
   walk = link ∷ rest.walk;
   leads = record {
@@ -115,7 +116,8 @@ module _ (Has : LinkOf ℕ → Type 0) (targets : List ℕ) (p : ℕ → ℕ) (c
             let from = offered_more settled waiting link.from (beyond label link) (beyond (label_of links) link) within (s.passed link label w.0 is) in
             subst (λ x. IsMet x (label_of (link ∷ links))) w.1 (subst (λ l. IsMet link.from l) (sym (label_of-cons link links)) (met link.from (beyond (label_of links) link) from))
         at (inr some) =
-            let further = AtMost-trans (keyed p some.vertex some.label) (keyed p link.to (label_of links)) (keyed p link.from (beyond (label_of links) link)) some.at_most (keyed_along p link (label_of links) (consistent link w.0)) in
+            let further = AtMost-trans (keyed p some.vertex some.label) (keyed p link.to (label_of links)) (keyed p link.from (beyond (label_of links) link)) some.at_most
+            (keyed_along p link (label_of links) (consistent link w.0)) in
             let from : SomeWaits p waiting link.from (beyond (label_of links) link) = record { vertex = some.vertex; label = some.label; waits = some.waits; at_most = further } in
             inr (subst (λ x. SomeWaits p waiting x (label_of (link ∷ links))) w.1 (subst (λ l. SomeWaits p waiting link.from l) (sym (label_of-cons link links)) from))
 
@@ -152,7 +154,8 @@ module _ (Has : LinkOf ℕ → Type 0) (targets : List ℕ) (p : ℕ → ℕ) (c
           }
         where
           at : (walk : List (LinkOf ℕ)) → SomeWaits p waiting x (label_of walk) → AtMost label (label_of walk)
-          at walk some = keyed_to p x label (label_of walk) (AtMost-trans (keyed p x label) (keyed p some.vertex some.label) (keyed p x (label_of walk)) (n.least some.vertex some.label some.waits) some.at_most)
+          at walk some = keyed_to p x label (label_of walk)
+              (AtMost-trans (keyed p x label) (keyed p some.vertex some.label) (keyed p x (label_of walk)) (n.least some.vertex some.label some.waits) some.at_most)
 
       -- and each least walk from it comes to a settled vertex at once: a waiting one would have a lesser key
       pub next_along : (link : LinkOf ℕ) (rest : List (LinkOf ℕ)) → label ≡ label_of (link ∷ rest) → LeadsTo Has targets x (link ∷ rest) → HasLabel settled link.to
@@ -161,13 +164,17 @@ module _ (Has : LinkOf ℕ → Type 0) (targets : List ℕ) (p : ℕ → ℕ) (c
           at : IsMet link.to (label_of rest) → HasLabel settled link.to
           at (inl has) = has
           at (inr some) =
-              let within = AtMost-trans (keyed p x label) (keyed p some.vertex some.label) (keyed p link.to (label_of rest)) (n.least some.vertex some.label some.waits) some.at_most in
-              let here : AtMost (keyed p link.from (beyond (label_of rest) link)) (keyed p link.to (label_of rest)) = subst (λ v. AtMost (keyed p v (beyond (label_of rest) link)) (keyed p link.to (label_of rest))) (sym leads.is_walk.1) (subst (λ l. AtMost (keyed p x l) (keyed p link.to (label_of rest))) (is ∙ label_of-cons link rest) within) in
+              let within = AtMost-trans (keyed p x label) (keyed p some.vertex some.label) (keyed p link.to (label_of rest))
+              (n.least some.vertex some.label some.waits) some.at_most in
+              let here : AtMost (keyed p link.from (beyond (label_of rest) link)) (keyed p link.to (label_of rest)) =
+              subst (λ v. AtMost (keyed p v (beyond (label_of rest) link)) (keyed p link.to (label_of rest))) (sym leads.is_walk.1)
+              (subst (λ l. AtMost (keyed p x l) (keyed p link.to (label_of rest))) (is ∙ label_of-cons link rest) within) in
               absurd (keyed_rises p link (label_of rest) (consistent link leads.is_walk.0) here)
 
 -- what relaxing the links into a vertex of this label leaves of the labels of waiting vertices, where these are settled
 pub record IsRelaxed (Through : LinkOf ℕ → Type 0) (label : Label) (settled before after : ℕ → Option Label) : Type 0 where
-  pub kept : (v : ℕ) (new : Label) → after v ≡ Some new → (before v ≡ Some new) ⊎ ((link : LinkOf ℕ) × (Through link × (link.from ≡ v) × (new ≡ beyond label link) × (settled v ≡ None)))
+  pub kept : (v : ℕ) (new : Label) → after v ≡ Some new
+      → (before v ≡ Some new) ⊎ ((link : LinkOf ℕ) × (Through link × (link.from ≡ v) × (new ≡ beyond label link) × (settled v ≡ None)))
   pub lowers : (v : ℕ) (old : Label) → before v ≡ Some old → (new : Label) × (after v ≡ Some new) × AtMost new old
   pub each : (link : LinkOf ℕ) → Through link → IsOffered settled after link.from (beyond label link)
 
@@ -217,18 +224,21 @@ module _ (Has : LinkOf ℕ → Type 0) (targets : List ℕ) (p : ℕ → ℕ) (c
   settled_before v a e = at (was_settled v a e)
     where
       at : ((v ≡ x) × (a ≡ label)) ⊎ (settled v ≡ Some a) → AtMost (keyed p v a) (keyed p x label)
-      at (inl (same, is)) = subst (λ u. AtMost (keyed p u a) (keyed p x label)) (sym same) (subst (λ l. AtMost (keyed p x l) (keyed p x label)) (sym is) (AtMost-refl (keyed p x label)))
+      at (inl (same, is)) =
+          subst (λ u. AtMost (keyed p u a) (keyed p x label)) (sym same) (subst (λ l. AtMost (keyed p x l) (keyed p x label)) (sym is) (AtMost-refl (keyed p x label)))
       at (inr was) = s.ordered v x a label was n.waits
 
   -- and the vertex's key is at most that of each that waits after
   waits_after : (u : ℕ) (b : Label) → waiting_after u ≡ Some b → AtMost (keyed p x label) (keyed p u b)
   waits_after u b e = at (relaxes.kept u b e)
     where
-      at : (without u ≡ Some b) ⊎ ((link : LinkOf ℕ) × ((Has link × (link.to ≡ x)) × (link.from ≡ u) × (b ≡ beyond label link) × (settled_after u ≡ None))) → AtMost (keyed p x label) (keyed p u b)
+      at : (without u ≡ Some b) ⊎ ((link : LinkOf ℕ) × ((Has link × (link.to ≡ x)) × (link.from ≡ u) × (b ≡ beyond label link) × (settled_after u ≡ None)))
+          → AtMost (keyed p x label) (keyed p u b)
       at (inl was) = n.least u b (still_waits u b was).1
       at (inr (link, h)) =
           let rises = keyed_along p link label (consistent link h.0.0) in
-          subst (λ l. AtMost (keyed p x label) (keyed p u l)) (sym h.2) (subst (λ v. AtMost (keyed p x label) (keyed p v (beyond label link))) h.1 (subst (λ v. AtMost (keyed p v label) (keyed p link.from (beyond label link))) h.0.1 rises))
+          subst (λ l. AtMost (keyed p x label) (keyed p u l)) (sym h.2) (subst
+          (λ v. AtMost (keyed p x label) (keyed p v (beyond label link))) h.1 (subst (λ v. AtMost (keyed p v label) (keyed p link.from (beyond label link))) h.0.1 rises))
 
   -- the search goes on
   pub one_more_settled : IsSearch Has targets p settled_after waiting_after
@@ -243,29 +253,37 @@ module _ (Has : LinkOf ℕ → Type 0) (targets : List ℕ) (p : ℕ → ℕ) (c
   }
     where
       least : (v : ℕ) (a : Label) → ((v ≡ x) × (a ≡ label)) ⊎ (settled v ≡ Some a) → IsLeastLabel Has targets v a
-      least v a (inl (same, is)) = subst (λ u. IsLeastLabel Has targets u a) (sym same) (subst (λ l. IsLeastLabel Has targets x l) (sym is) (next_is_least Has targets p consistent settled waiting s x label n))
+      least v a (inl (same, is)) = subst (λ u. IsLeastLabel Has targets u a) (sym same)
+          (subst (λ l. IsLeastLabel Has targets x l) (sym is) (next_is_least Has targets p consistent settled waiting s x label n))
       least v a (inr was) = s.least v a was
 
-      along : (v : ℕ) (link : LinkOf ℕ) (rest : List (LinkOf ℕ)) → ((v ≡ x) × (label_of (link ∷ rest) ≡ label)) ⊎ (settled v ≡ Some (label_of (link ∷ rest))) → LeadsTo Has targets v (link ∷ rest) → HasLabel settled link.to
-      along v link rest (inl (same, is)) leads = next_along Has targets p consistent settled waiting s x label n link rest (sym is) (subst (λ u. LeadsTo Has targets u (link ∷ rest)) same leads)
+      along : (v : ℕ) (link : LinkOf ℕ) (rest : List (LinkOf ℕ)) → ((v ≡ x) × (label_of (link ∷ rest) ≡ label)) ⊎ (settled v ≡ Some (label_of (link ∷ rest)))
+          → LeadsTo Has targets v (link ∷ rest) → HasLabel settled link.to
+      along v link rest (inl (same, is)) leads =
+          next_along Has targets p consistent settled waiting s x label n link rest (sym is) (subst (λ u. LeadsTo Has targets u (link ∷ rest)) same leads)
       along v link rest (inr was) leads = s.along v link rest was leads
 
-      reached : (v : ℕ) (b : Label) → (without v ≡ Some b) ⊎ ((link : LinkOf ℕ) × ((Has link × (link.to ≡ x)) × (link.from ≡ v) × (b ≡ beyond label link) × (settled_after v ≡ None))) → HasWalk Has targets v b
+      reached : (v : ℕ) (b : Label) → (without v ≡ Some b)
+          ⊎ ((link : LinkOf ℕ) × ((Has link × (link.to ≡ x)) × (link.from ≡ v) × (b ≡ beyond label link) × (settled_after v ≡ None))) → HasWalk Has targets v b
       reached v b (inl was) = s.reached v b (still_waits v b was).1
       reached v b (inr (link, h)) =
           let rest = subst (λ u. HasWalk Has targets u label) (sym h.0.1) (s.reached x label n.waits) in
           subst (λ u. HasWalk Has targets u b) h.1 (subst (λ l. HasWalk Has targets link.from l) (sym h.2) (HasWalk-cons Has targets label link h.0.0 rest))
 
-      apart : (v : ℕ) (b : Label) → (without v ≡ Some b) ⊎ ((link : LinkOf ℕ) × ((Has link × (link.to ≡ x)) × (link.from ≡ v) × (b ≡ beyond label link) × (settled_after v ≡ None))) → settled_after v ≡ None
+      apart : (v : ℕ) (b : Label) → (without v ≡ Some b)
+          ⊎ ((link : LinkOf ℕ) × ((Has link × (link.to ≡ x)) × (link.from ≡ v) × (b ≡ beyond label link) × (settled_after v ≡ None))) → settled_after v ≡ None
       apart v b (inl was) = let w = still_waits v b was in settled_other v w.0 ∙ s.apart v b w.1
       apart v b (inr (link, h)) = h.3
 
-      passed : (link : LinkOf ℕ) (a : Label) → Has link → ((link.to ≡ x) × (a ≡ label)) ⊎ (settled link.to ≡ Some a) → IsOffered settled_after waiting_after link.from (beyond a link)
+      passed : (link : LinkOf ℕ) (a : Label) → Has link → ((link.to ≡ x) × (a ≡ label)) ⊎ (settled link.to ≡ Some a)
+          → IsOffered settled_after waiting_after link.from (beyond a link)
       passed link a has (inl (same, is)) = subst (λ l. IsOffered settled_after waiting_after link.from (beyond l link)) (sym is) (relaxes.each link (has, same))
       passed link a has (inr was) = still_offered link.from (beyond a link) (s.passed link a has was)
 
 -- a search begins where no vertex is settled and the targets alone wait, with the label of the walk without links
-pub search_begins : (Has : LinkOf ℕ → Type 0) (targets : List ℕ) (p : ℕ → ℕ) (settled waiting : ℕ → Option Label) → ((v : ℕ) → settled v ≡ None) → ((t : ℕ) → Contains targets t → waiting t ≡ Some empty_label) → ((v : ℕ) (label : Label) → waiting v ≡ Some label → Contains targets v × (label ≡ empty_label)) → IsSearch Has targets p settled waiting
+pub search_begins : (Has : LinkOf ℕ → Type 0) (targets : List ℕ) (p : ℕ → ℕ) (settled waiting : ℕ → Option Label) → ((v : ℕ) → settled v ≡ None)
+    → ((t : ℕ) → Contains targets t → waiting t ≡ Some empty_label) → ((v : ℕ) (label : Label) → waiting v ≡ Some label → Contains targets v × (label ≡ empty_label))
+    → IsSearch Has targets p settled waiting
 search_begins Has targets p settled waiting none marked others = record {
   least = λ v label e. absurd (none-some label (sym (none v) ∙ e));
   along = λ v link rest e leads. absurd (none-some (label_of (link ∷ rest)) (sym (none v) ∙ e));

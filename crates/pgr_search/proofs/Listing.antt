@@ -20,18 +20,22 @@ none_forgotten labels order count h = record {
   left = λ v label e. (let i = h.listed v label e in (i.0, omega arith, i.1, i.2));
 }
 
-pub one_forgotten : (labels : List (Option Label)) (order : List ℕ) (k count : ℕ) → k < count → IsForgotten labels order k count → IsForgotten (set labels (get_or order k 0) None) order (k + 1) count
+pub one_forgotten : (labels : List (Option Label)) (order : List ℕ) (k count : ℕ) → k < count → IsForgotten labels order k count
+    → IsForgotten (set labels (get_or order k 0) None) order (k + 1) count
 one_forgotten labels order k count lt h = record {
   inside = λ i below. omega (arith, h.inside i below, length-set labels (get_or order k 0) None);
   left = λ v label e. at v label e (cases_eq v (get_or order k 0));
 }
   where
-    at : (v : ℕ) (label : Label) → get_or (set labels (get_or order k 0) None) v None ≡ Some label → (v ≡ get_or order k 0) ⊎ (v ≡ get_or order k 0 → ⊥) → (i : ℕ) × (k + 1 ≤ i) × (i < count) × (get_or order i 0 ≡ v)
+    at : (v : ℕ) (label : Label) → get_or (set labels (get_or order k 0) None) v None ≡ Some label → (v ≡ get_or order k 0) ⊎ (v ≡ get_or order k 0 → ⊥)
+        → (i : ℕ) × (k + 1 ≤ i) × (i < count) × (get_or order i 0 ≡ v)
     at v label e (inl same) =
-        absurd (none-some label (sym (get_or-set_same labels (get_or order k 0) None None (h.inside k lt)) ∙ ap (λ x. get_or (set labels (get_or order k 0) None) x None) (sym same) ∙ e))
+        absurd (none-some label
+        (sym (get_or-set_same labels (get_or order k 0) None None (h.inside k lt)) ∙ ap (λ x. get_or (set labels (get_or order k 0) None) x None) (sym same) ∙ e))
     at v label e (inr other) =
         let i = h.left v label (sym (get_or-set_other labels (get_or order k 0) v None None other) ∙ e) in
-        let later : k + 1 ≤ i.0 = ⊎_elim (λ (same : i.0 ≡ k). absurd (other (sym i.3 ∙ ap (λ x. get_or order x 0) same))) (λ (differs : i.0 ≡ k → ⊥). omega (arith, i.1)) (cases_eq i.0 k) in
+        let later : k + 1 ≤ i.0 =
+        ⊎_elim (λ (same : i.0 ≡ k). absurd (other (sym i.3 ∙ ap (λ x. get_or order x 0) same))) (λ (differs : i.0 ≡ k → ⊥). omega (arith, i.1)) (cases_eq i.0 k) in
         (i.0, later, i.2, i.3)
 
 pub all_forgotten : (labels : List (Option Label)) (order : List ℕ) (k count : ℕ) → count ≤ k → IsForgotten labels order k count → All IsNone labels
@@ -72,7 +76,8 @@ none_listed labels order small size none = record {
 }
 
 -- a vertex that isn't settled has a place in the list
-pub room_left : (labels : List (Option Label)) (order : List ℕ) (count v : ℕ) (label : Label) → IsListed labels order count → v < length labels → get_or labels v None ≡ None → count < length order
+pub room_left : (labels : List (Option Label)) (order : List ℕ) (count v : ℕ) (label : Label) → IsListed labels order count → v < length labels → get_or labels v None ≡ None
+    → count < length order
 room_left labels order count v label h below free =
     let more = sum_by-set (λ (o : Option Label). cond (is_some o) 1 0) labels v (Some label) None below in
     let none : ◌≡◌ {A = ℕ} (cond (is_some (get_or labels v None)) 1 0) 0 = ap (λ (o : Option Label). cond (is_some o) 1 0) free in
@@ -80,7 +85,8 @@ room_left labels order count v label h below free =
     omega (arith, more, none, most, length-set labels v (Some label), h.counted, h.size)
 
 -- one vertex more is settled
-pub one_listed : (labels : List (Option Label)) (order : List ℕ) (count v : ℕ) (label : Label) → IsListed labels order count → v < length labels → get_or labels v None ≡ None → IsListed (set labels v (Some label)) (set order count v) (count + 1)
+pub one_listed : (labels : List (Option Label)) (order : List ℕ) (count v : ℕ) (label : Label) → IsListed labels order count → v < length labels → get_or labels v None ≡ None
+    → IsListed (set labels v (Some label)) (set order count v) (count + 1)
 one_listed labels order count v label h below free = record {
   small = omega (arith, length-set labels v (Some label), h.small);
   size = length-set order count v ∙ h.size ∙ sym (length-set labels v (Some label));
@@ -102,7 +108,8 @@ one_listed labels order count v label h below free = record {
     inside i lt (inl same) = omega (arith, ap (λ x. get_or (set order count v) x 0) same, get_or-set_same order count v 0 last, length-set labels v (Some label), below)
     inside i lt (inr other) = omega (arith, get_or-set_other order count i v 0 other, length-set labels v (Some label), h.inside i (omega arith))
 
-    listed : (u : ℕ) (other : Label) → get_or (set labels v (Some label)) u None ≡ Some other → (u ≡ v) ⊎ (u ≡ v → ⊥) → (i : ℕ) × (i < count + 1) × (get_or (set order count v) i 0 ≡ u)
+    listed : (u : ℕ) (other : Label) → get_or (set labels v (Some label)) u None ≡ Some other → (u ≡ v) ⊎ (u ≡ v → ⊥)
+        → (i : ℕ) × (i < count + 1) × (get_or (set order count v) i 0 ≡ u)
     listed u other e (inl same) = (count, omega arith, get_or-set_same order count v 0 last ∙ sym same)
     listed u other e (inr differs) =
         let i = h.listed u other (sym (get_or-set_other labels v u (Some label) None differs) ∙ e) in

@@ -116,13 +116,15 @@ above_child p c k i e h = (i, sym h ∙ ap (λ x. x / 2) e ∙ up-half i p)
 
 module _ {K : Type 0} (cmp : K → K → Ordering) (keys : List (Option K)) (winners : List ℕ) where
   -- where a vertex stands at a place, as far as that is known of the places under it
-  stands_by : IsTree cmp keys winners → (v k : ℕ) → v < length keys → 1 ≤ k → k < 2 * length keys → at_place winners k ≡ v → ((c : ℕ) → k < c → c < 2 * length keys → at_place winners c ≡ v → (i : ℕ) × (c ≡ up i (length keys + v))) → (i : ℕ) × (k ≡ up i (length keys + v))
+  stands_by : IsTree cmp keys winners → (v k : ℕ) → v < length keys → 1 ≤ k → k < 2 * length keys → at_place winners k ≡ v
+      → ((c : ℕ) → k < c → c < 2 * length keys → at_place winners c ≡ v → (i : ℕ) × (c ≡ up i (length keys + v))) → (i : ℕ) × (k ≡ up i (length keys + v))
   stands_by t v k below one inside is under = by (cases_lt k (length keys))
     where
       from : (c : ℕ) → (c ≡ 2 * k) ⊎ (c ≡ 2 * k + 1) → (i : ℕ) × (c ≡ up i (length keys + v)) → (i : ℕ) × (k ≡ up i (length keys + v))
       from c child (i, e) = let a = above_child (length keys + v) c k i e (half_of k c child) in (suc a.0, a.1)
 
-      pick : k < length keys → (winner cmp keys (at_place winners (2 * k)) (at_place winners (2 * k + 1)) ≡ at_place winners (2 * k)) ⊎ (winner cmp keys (at_place winners (2 * k)) (at_place winners (2 * k + 1)) ≡ at_place winners (2 * k + 1)) → (i : ℕ) × (k ≡ up i (length keys + v))
+      pick : k < length keys → (winner cmp keys (at_place winners (2 * k)) (at_place winners (2 * k + 1)) ≡ at_place winners (2 * k))
+          ⊎ (winner cmp keys (at_place winners (2 * k)) (at_place winners (2 * k + 1)) ≡ at_place winners (2 * k + 1)) → (i : ℕ) × (k ≡ up i (length keys + v))
       pick lt (inl e) = from (2 * k) (inl refl) (under (2 * k) (omega arith) (omega arith) (sym e ∙ sym (t.held k one lt) ∙ is))
       pick lt (inr e) = from (2 * k + 1) (inr refl) (under (2 * k + 1) (omega arith) (omega arith) (sym e ∙ sym (t.held k one lt) ∙ is))
 
@@ -134,7 +136,8 @@ module _ {K : Type 0} (cmp : K → K → Ordering) (keys : List (Option K)) (win
           (0, omega (arith, stands, is))
 
   -- a vertex stands only at its own place and above it
-  pub stands_above : IsTree cmp keys winners → (v : ℕ) → v < length keys → (fuel k : ℕ) → 2 * length keys ≤ k + fuel → 1 ≤ k → k < 2 * length keys → at_place winners k ≡ v → (i : ℕ) × (k ≡ up i (length keys + v))
+  pub stands_above : IsTree cmp keys winners → (v : ℕ) → v < length keys → (fuel k : ℕ) → 2 * length keys ≤ k + fuel → 1 ≤ k → k < 2 * length keys → at_place winners k ≡ v
+      → (i : ℕ) × (k ≡ up i (length keys + v))
   stands_above t v below zero k enough one inside is = absurd (omega arith)
   stands_above t v below (suc fuel) k enough one inside is =
       stands_by t v k below one inside is (λ c more lt stands. stands_above t v below fuel c (omega arith) (omega arith) lt stands)
@@ -166,7 +169,8 @@ module _ {K : Type 0} (cmp : K → K → Ordering) (keys : List (Option K)) (win
             range (inl e) = (omega arith, omega arith)
             range (inr e) = (omega arith, omega arith)
 
-        at : (k : ℕ) → 1 ≤ k → k < length keys → (at_place winners (2 * k) ≡ v) ⊎ (at_place winners (2 * k) ≡ v → ⊥) → (at_place winners (2 * k + 1) ≡ v) ⊎ (at_place winners (2 * k + 1) ≡ v → ⊥) → IsMatch cmp (set keys v key) winners k ⊎ IsAbove (length keys + v) k
+        at : (k : ℕ) → 1 ≤ k → k < length keys → (at_place winners (2 * k) ≡ v) ⊎ (at_place winners (2 * k) ≡ v → ⊥)
+            → (at_place winners (2 * k + 1) ≡ v) ⊎ (at_place winners (2 * k + 1) ≡ v → ⊥) → IsMatch cmp (set keys v key) winners k ⊎ IsAbove (length keys + v) k
         at k one lt (inl is) right = inr (above k (2 * k) one lt (inl refl) is)
         at k one lt (inr left) (inl is) = inr (above k (2 * k + 1) one lt (inr refl) is)
         at k one lt (inr left) (inr right) = inl (t.held k one lt ∙ same (at_place winners (2 * k)) (at_place winners (2 * k + 1)) left right)
@@ -175,14 +179,16 @@ module _ {K : Type 0} (cmp : K → K → Ordering) (keys : List (Option K)) (win
             same a b l r = λ i. cond (is_before cmp (sym (changed b r) i) (sym (changed a l) i)) b a
 
   -- what one more match leaves
-  module _ (leaves : HasLeaves (length keys) winners) (q w : ℕ) (from_one : 1 ≤ q) (inside : q < length keys) (won : w ≡ winner cmp keys (at_place winners (2 * q)) (at_place winners (2 * q + 1))) where
+  module _ (leaves : HasLeaves (length keys) winners) (q w : ℕ) (from_one : 1 ≤ q) (inside : q < length keys)
+      (won : w ≡ winner cmp keys (at_place winners (2 * q)) (at_place winners (2 * q + 1))) where
     other : (k : ℕ) → (k ≡ q → ⊥) → at_place (set winners q w) k ≡ at_place winners k
     other k differs = get_or-set_other winners q k w 0 differs
 
     here : at_place (set winners q w) q ≡ w
     here = get_or-set_same winners q w 0 (omega (arith, leaves.size))
 
-    one_of : (winner cmp keys (at_place winners (2 * q)) (at_place winners (2 * q + 1)) ≡ at_place winners (2 * q)) ⊎ (winner cmp keys (at_place winners (2 * q)) (at_place winners (2 * q + 1)) ≡ at_place winners (2 * q + 1)) → w < length keys
+    one_of : (winner cmp keys (at_place winners (2 * q)) (at_place winners (2 * q + 1)) ≡ at_place winners (2 * q))
+        ⊎ (winner cmp keys (at_place winners (2 * q)) (at_place winners (2 * q + 1)) ≡ at_place winners (2 * q + 1)) → w < length keys
     one_of (inl e) = omega (arith, won, e, leaves.below (2 * q) (omega arith) (omega arith))
     one_of (inr e) = omega (arith, won, e, leaves.below (2 * q + 1) (omega arith) (omega arith))
 
@@ -207,7 +213,8 @@ module _ {K : Type 0} (cmp : K → K → Ordering) (keys : List (Option K)) (win
     match_stays k differs left right match = other k differs ∙ match ∙ (λ i. winner cmp keys (sym (other (2 * k) left) i) (sym (other (2 * k + 1) right) i))
 
   -- one more match is held, from the last place up
-  pub held_from_more : (q w : ℕ) → 1 ≤ q → q < length keys → w ≡ winner cmp keys (at_place winners (2 * q)) (at_place winners (2 * q + 1)) → IsHeldFrom cmp keys winners (q + 1) → IsHeldFrom cmp keys (set winners q w) q
+  pub held_from_more : (q w : ℕ) → 1 ≤ q → q < length keys → w ≡ winner cmp keys (at_place winners (2 * q)) (at_place winners (2 * q + 1)) → IsHeldFrom cmp keys winners (q + 1)
+      → IsHeldFrom cmp keys (set winners q w) q
   held_from_more q w from_one inside won h = record {
     leaves = leaves_stay h.leaves q w from_one inside won;
     held = λ k one from lt. at k one from lt (cases_eq k q);
@@ -218,7 +225,8 @@ module _ {K : Type 0} (cmp : K → K → Ordering) (keys : List (Option K)) (win
       at k one from lt (inr differs) = match_stays h.leaves q w from_one inside won k differs (λ e. omega arith) (λ e. omega arith) (h.held k one (omega arith) lt)
 
   -- one more match is held, above the place
-  pub more_held : (p q w : ℕ) → 1 < p → q ≡ p / 2 → w ≡ winner cmp keys (at_place winners (2 * q)) (at_place winners (2 * q + 1)) → IsTreeBut cmp keys winners p → IsTreeBut cmp keys (set winners q w) q
+  pub more_held : (p q w : ℕ) → 1 < p → q ≡ p / 2 → w ≡ winner cmp keys (at_place winners (2 * q)) (at_place winners (2 * q + 1)) → IsTreeBut cmp keys winners p
+      → IsTreeBut cmp keys (set winners q w) q
   more_held p q w gt half won t = record {
     small = t.small;
     leaves = leaves_stay t.leaves q w from_one inside won;
@@ -238,7 +246,8 @@ module _ {K : Type 0} (cmp : K → K → Ordering) (keys : List (Option K)) (win
       still k differs left right (inr (zero, e)) = absurd (differs (e ∙ sym half))
       still k differs left right (inr (suc i, e)) = inr (i, e ∙ ap (λ x. up i (x / 2)) (sym half))
 
-      at : (k : ℕ) → 1 ≤ k → k < length keys → (k ≡ q) ⊎ (k ≡ q → ⊥) → (2 * k ≡ q) ⊎ (2 * k ≡ q → ⊥) → (2 * k + 1 ≡ q) ⊎ (2 * k + 1 ≡ q → ⊥) → IsMatch cmp keys (set winners q w) k ⊎ IsAbove q k
+      at : (k : ℕ) → 1 ≤ k → k < length keys → (k ≡ q) ⊎ (k ≡ q → ⊥) → (2 * k ≡ q) ⊎ (2 * k ≡ q → ⊥) → (2 * k + 1 ≡ q) ⊎ (2 * k + 1 ≡ q → ⊥)
+          → IsMatch cmp keys (set winners q w) k ⊎ IsAbove q k
       at k one lt (inl e) left right =
           inl (subst (λ x. IsMatch cmp keys (set winners q w) x) (sym e) (match_here t.leaves q w from_one inside won))
       at k one lt (inr differs) (inl e) right = inr (0, half_at k q (inl e))
@@ -260,26 +269,32 @@ module _ {K : Type 0} (cmp : K → K → Ordering) (keys : List (Option K)) (win
   module _ (total : IsTotalOrder cmp) (t : IsTree cmp keys winners) where
     -- no key under a match is before that of its winner
     under : (q k : ℕ) → (k ≡ 2 * q) ⊎ (k ≡ 2 * q + 1) → 1 ≤ q → q < length keys → is_before cmp (key_at keys (at_place winners k)) (key_at keys (at_place winners q)) ≡ false
-    under q k (inl e) from_one lt = (λ i. is_before cmp (key_at keys (at_place winners (e i))) (key_at keys (t.held q from_one lt i))) ∙ first_not_before cmp total keys (at_place winners (2 * q)) (at_place winners (2 * q + 1))
-    under q k (inr e) from_one lt = (λ i. is_before cmp (key_at keys (at_place winners (e i))) (key_at keys (t.held q from_one lt i))) ∙ second_not_before cmp total keys (at_place winners (2 * q)) (at_place winners (2 * q + 1))
+    under q k (inl e) from_one lt = (λ i. is_before cmp (key_at keys (at_place winners (e i))) (key_at keys (t.held q from_one lt i)))
+        ∙ first_not_before cmp total keys (at_place winners (2 * q)) (at_place winners (2 * q + 1))
+    under q k (inr e) from_one lt = (λ i. is_before cmp (key_at keys (at_place winners (e i))) (key_at keys (t.held q from_one lt i)))
+        ∙ second_not_before cmp total keys (at_place winners (2 * q)) (at_place winners (2 * q + 1))
 
     -- no key at a place is before that of the winner of all
     none_before : (fuel k : ℕ) → k ≤ fuel → 1 ≤ k → k < 2 * length keys → is_before cmp (key_at keys (at_place winners k)) (key_at keys (at_place winners 1)) ≡ false
     none_before zero k enough one inside = absurd (omega arith)
     none_before (suc fuel) k enough one inside = by (cases_eq k 1) (λ q less from_one lt. none_before fuel q (omega arith) from_one lt)
       where
-        by : (k ≡ 1) ⊎ (k ≡ 1 → ⊥) → ((q : ℕ) → q < k → 1 ≤ q → q < 2 * length keys → is_before cmp (key_at keys (at_place winners q)) (key_at keys (at_place winners 1)) ≡ false) → is_before cmp (key_at keys (at_place winners k)) (key_at keys (at_place winners 1)) ≡ false
-        by (inl e) lesser = ap (λ x. is_before cmp (key_at keys (at_place winners x)) (key_at keys (at_place winners 1))) e ∙ before_itself cmp total (key_at keys (at_place winners 1))
+        by : (k ≡ 1) ⊎ (k ≡ 1 → ⊥) → ((q : ℕ) → q < k → 1 ≤ q → q < 2 * length keys → is_before cmp (key_at keys (at_place winners q))
+            (key_at keys (at_place winners 1)) ≡ false) → is_before cmp (key_at keys (at_place winners k)) (key_at keys (at_place winners 1)) ≡ false
+        by (inl e) lesser = ap (λ x. is_before cmp (key_at keys (at_place winners x)) (key_at keys (at_place winners 1))) e
+            ∙ before_itself cmp total (key_at keys (at_place winners 1))
         by (inr more) lesser = not_before-trans cmp total (key_at keys (at_place winners k)) (key_at keys (at_place winners (k / 2))) (key_at keys (at_place winners 1))
             (under (k / 2) k (even_or_odd k) (omega arith) (omega arith)) (lesser (k / 2) (omega arith) (omega arith) (omega arith))
 
     -- nor is any key
     none_before_top : (v : ℕ) → v < length keys → is_before cmp (key_at keys v) (key_at keys (at_place winners 1)) ≡ false
     none_before_top v below =
-        ap (λ x. is_before cmp (key_at keys x) (key_at keys (at_place winners 1))) (sym (t.leaves.leaf v below)) ∙ none_before (length keys + v) (length keys + v) (omega arith) (omega arith) (omega arith)
+        ap (λ x. is_before cmp (key_at keys x) (key_at keys (at_place winners 1))) (sym (t.leaves.leaf v below))
+        ∙ none_before (length keys + v) (length keys + v) (omega arith) (omega arith) (omega arith)
 
     -- the key of the winner of all, as it is read
-    pub read_top : (vertex : ℕ) (read found : Option K) → 1 < length winners → vertex ≡ at_place winners 1 → read ≡ get_or keys vertex read → read ≡ found → key_at keys (at_place winners 1) ≡ found
+    pub read_top : (vertex : ℕ) (read found : Option K) → 1 < length winners → vertex ≡ at_place winners 1 → read ≡ get_or keys vertex read → read ≡ found
+        → key_at keys (at_place winners 1) ≡ found
     read_top vertex read found some is at same =
         let below : at_place winners 1 < length keys = t.leaves.below 1 (omega arith) (omega (arith, t.leaves.size)) in
         ap (key_at keys) (sym is) ∙ sym (get_or_default keys vertex read None (omega (arith, is))) ∙ sym at ∙ same
@@ -293,7 +308,8 @@ module _ {K : Type 0} (cmp : K → K → Ordering) (keys : List (Option K)) (win
         at v lt (Some key) e = absurd (true≢false ((λ i. is_before cmp (sym e i) (sym top i)) ∙ none_before_top v lt))
 
     -- else its key is least
-    pub winner_is_least : (vertex : ℕ) (key : K) → vertex ≡ at_place winners 1 → key_at keys (at_place winners 1) ≡ Some key → IsLeast cmp keys (record { vertex = vertex; key = key })
+    pub winner_is_least : (vertex : ℕ) (key : K) → vertex ≡ at_place winners 1 → key_at keys (at_place winners 1) ≡ Some key
+        → IsLeast cmp keys (record { vertex = vertex; key = key })
     winner_is_least vertex key is top = record {
       waits = ap (key_at keys) is ∙ top;
       least = λ v other e. at v other e (cases_lt v (length keys));
@@ -304,7 +320,8 @@ module _ {K : Type 0} (cmp : K → K → Ordering) (keys : List (Option K)) (win
         at v other e (inr past) = absurd (none-some other (sym (get_or_past keys v None past) ∙ e))
 
 -- the matches while a key changes: those of before, and how far up they have been held again
-pub record IsClimbing {K : Type 0} (cmp : K → K → Ordering) (before : List (Option K)) (first : List ℕ) (v : ℕ) (keys : List (Option K)) (winners : List ℕ) (place : ℕ) : Type 0 where
+pub record IsClimbing {K : Type 0} (cmp : K → K → Ordering) (before : List (Option K)) (first : List ℕ) (v : ℕ) (keys : List (Option K)) (winners : List ℕ)
+    (place : ℕ) : Type 0 where
   pub but : IsTreeBut cmp keys winners place
   -- the place is that of the vertex or above it, and nothing was written before it
   pub path : (i : ℕ) × (place ≡ up i (length before + v))
@@ -331,15 +348,18 @@ module _ {K : Type 0} (cmp : K → K → Ordering) (before : List (Option K)) (f
           in_range (inl e) = (omega arith, omega arith)
           in_range (inr e) = (omega arith, omega arith)
 
-      by : 1 ≤ q / 2 → at_place first (q / 2) ≡ v → (winner cmp before (at_place first (2 * (q / 2))) (at_place first (2 * (q / 2) + 1)) ≡ at_place first (2 * (q / 2))) ⊎ (winner cmp before (at_place first (2 * (q / 2))) (at_place first (2 * (q / 2) + 1)) ≡ at_place first (2 * (q / 2) + 1)) → at_place first q ≡ v
+      by : 1 ≤ q / 2 → at_place first (q / 2) ≡ v → (winner cmp before (at_place first (2 * (q / 2))) (at_place first (2 * (q / 2) + 1)) ≡ at_place first (2 * (q / 2)))
+          ⊎ (winner cmp before (at_place first (2 * (q / 2))) (at_place first (2 * (q / 2) + 1)) ≡ at_place first (2 * (q / 2) + 1)) → at_place first q ≡ v
       by some there (inl e) = from (2 * (q / 2)) some (inl refl) (sym e ∙ sym (t.held (q / 2) some (omega arith)) ∙ there)
       by some there (inr e) = from (2 * (q / 2) + 1) some (inr refl) (sym e ∙ sym (t.held (q / 2) some (omega arith)) ∙ there)
 
   -- at first
   pub climbing_begins : (key : Option K) → IsClimbing cmp before first v (set before v key) first (length (set before v key) + v)
-  climbing_begins key = subst (λ n. IsClimbing cmp before first v (set before v key) first (n + v)) (sym (length-set before v key)) (record { but = changed_but cmp before first t v key below; path = (0, refl); same = λ k lt. refl })
+  climbing_begins key = subst (λ n. IsClimbing cmp before first v (set before v key) first (n + v)) (sym (length-set before v key))
+      (record { but = changed_but cmp before first t v key below; path = (0, refl); same = λ k lt. refl })
 
-  module _ (keys : List (Option K)) (key : Option K) (keys_are : keys ≡ set before v key) (winners : List ℕ) (p q w : ℕ) (gt : 1 < p) (half : q ≡ p / 2) (won : w ≡ winner cmp keys (at_place winners (2 * q)) (at_place winners (2 * q + 1))) (c : IsClimbing cmp before first v keys winners p) where
+  module _ (keys : List (Option K)) (key : Option K) (keys_are : keys ≡ set before v key) (winners : List ℕ) (p q w : ℕ) (gt : 1 < p) (half : q ≡ p / 2)
+      (won : w ≡ winner cmp keys (at_place winners (2 * q)) (at_place winners (2 * q + 1))) (c : IsClimbing cmp before first v keys winners p) where
     path_on : (i : ℕ) × (q ≡ up i (length before + v))
     path_on = (suc c.path.0, half ∙ ap (λ x. x / 2) c.path.1 ∙ up-half c.path.0 (length before + v))
 
@@ -369,7 +389,8 @@ module _ {K : Type 0} (cmp : K → K → Ordering) (before : List (Option K)) (f
             let onto : up j q ≡ up (path_on.0 + j) (length before + v) = ap (up j) path_on.1 ∙ sym (up-add path_on.0 j (length before + v)) in
             let halves : d / 2 ≡ up j q / 2 = half_of k d child ∙ e ∙ sym (up-half j q) in
             let there : d ≡ up j q = same_above (length before + v) d (up j q) stands.0 (path_on.0 + j) stands.1 onto halves (omega (arith, half_of k d child)) in
-            let at_q : at_place first q ≡ v = stands_under j q path_on.0 path_on.1 (omega (arith, half, c.but.inside, len)) (omega (arith, there, from_one child)) (ap (at_place first) (sym there) ∙ is) in
+            let at_q : at_place first q ≡ v =
+            stands_under j q path_on.0 path_on.1 (omega (arith, half, c.but.inside, len)) (omega (arith, there, from_one child)) (ap (at_place first) (sym there) ∙ is) in
             other (sym stays ∙ c.same q (omega (arith, half)) ∙ at_q)
           where
             from_one : (d ≡ 2 * k) ⊎ (d ≡ 2 * k + 1) → 1 ≤ d
@@ -389,4 +410,5 @@ module _ {K : Type 0} (cmp : K → K → Ordering) (before : List (Option K)) (f
             let r : at_place winners (2 * k + 1) ≡ at_place first (2 * k + 1) = c.same (2 * k + 1) low in
             let left = unchanged (at_place first (2 * k)) (not_above (2 * k) k one (omega arith) (omega (arith, lt, len)) (inl refl) above) in
             let right = unchanged (at_place first (2 * k + 1)) (not_above (2 * k + 1) k one low (omega (arith, lt, len)) (inr refl) above) in
-            c.same k (omega arith) ∙ t.held k one (omega (arith, lt, len)) ∙ (λ i. cond (is_before cmp (sym right i) (sym left i)) (at_place first (2 * k + 1)) (at_place first (2 * k))) ∙ (λ i. winner cmp keys (sym l i) (sym r i))
+            c.same k (omega arith) ∙ t.held k one (omega (arith, lt, len))
+            ∙ (λ i. cond (is_before cmp (sym right i) (sym left i)) (at_place first (2 * k + 1)) (at_place first (2 * k))) ∙ (λ i. winner cmp keys (sym l i) (sym r i))

@@ -46,7 +46,8 @@ module _ (settled waiting : List (Option Label)) (label : Label) (link : LinkOf 
     offers = offers;
   }
 
-  written : label_at settled link.from ≡ None → is_before label_cmp (Some (beyond label link)) (key_at waiting link.from) ≡ true → IsStep settled waiting label link (set waiting link.from (Some (beyond label link)))
+  written : label_at settled link.from ≡ None → is_before label_cmp (Some (beyond label link)) (key_at waiting link.from) ≡ true
+      → IsStep settled waiting label link (set waiting link.from (Some (beyond label link)))
   written free e = record {
     kept = λ v new is. kept v new is (cases_eq v link.from);
     lowers = λ v old is. lowers v old is (cases_eq v link.from);
@@ -59,19 +60,32 @@ module _ (settled waiting : List (Option Label)) (label : Label) (link : LinkOf 
       other : (v : ℕ) → (v ≡ link.from → ⊥) → label_at (set waiting link.from (Some (beyond label link))) v ≡ label_at waiting v
       other v differs = get_or-set_other waiting link.from v (Some (beyond label link)) None differs
 
-      kept : (v : ℕ) (new : Label) → label_at (set waiting link.from (Some (beyond label link))) v ≡ Some new → (v ≡ link.from) ⊎ (v ≡ link.from → ⊥) → (label_at waiting v ≡ Some new) ⊎ ((link.from ≡ v) × (new ≡ beyond label link) × (label_at settled v ≡ None))
-      kept v new is (inl same) = inr (sym same, sym (same_Some (beyond label link) new (sym here ∙ ap (label_at (set waiting link.from (Some (beyond label link)))) (sym same) ∙ is)), ap (label_at settled) same ∙ free)
+      kept : (v : ℕ) (new : Label) → label_at (set waiting link.from (Some (beyond label link))) v ≡ Some new → (v ≡ link.from) ⊎ (v ≡ link.from → ⊥)
+          → (label_at waiting v ≡ Some new) ⊎ ((link.from ≡ v) × (new ≡ beyond label link) × (label_at settled v ≡ None))
+      kept v new is (inl same) = inr (
+        sym same,
+        sym
+            (same_Some (beyond label link) new (sym here ∙ ap (label_at (set waiting link.from (Some (beyond label link)))) (sym same) ∙ is)),
+        ap (label_at settled) same ∙ free,
+      )
       kept v new is (inr differs) = inl (sym (other v differs) ∙ is)
 
-      lowers : (v : ℕ) (old : Label) → label_at waiting v ≡ Some old → (v ≡ link.from) ⊎ (v ≡ link.from → ⊥) → (new : Label) × (label_at (set waiting link.from (Some (beyond label link))) v ≡ Some new) × AtMost new old
-      lowers v old is (inl same) = (beyond label link, ap (label_at (set waiting link.from (Some (beyond label link)))) same ∙ here, before_old (beyond label link) (key_at waiting link.from) old e (ap (label_at waiting) (sym same) ∙ is))
+      lowers : (v : ℕ) (old : Label) → label_at waiting v ≡ Some old → (v ≡ link.from) ⊎ (v ≡ link.from → ⊥)
+          → (new : Label) × (label_at (set waiting link.from (Some (beyond label link))) v ≡ Some new) × AtMost new old
+      lowers v old is (inl same) = (
+        beyond label link,
+        ap (label_at (set waiting link.from (Some (beyond label link)))) same ∙ here,
+        before_old (beyond label link) (key_at waiting link.from) old e (ap (label_at waiting) (sym same) ∙ is),
+      )
       lowers v old is (inr differs) = (old, other v differs ∙ is, AtMost-refl old)
 
-  lowered_step : label_at settled link.from ≡ None → (b : Bool) → is_before label_cmp (Some (beyond label link)) (key_at waiting link.from) ≡ b → IsStep settled waiting label link (cond b (set waiting link.from (Some (beyond label link))) waiting)
+  lowered_step : label_at settled link.from ≡ None → (b : Bool) → is_before label_cmp (Some (beyond label link)) (key_at waiting link.from) ≡ b
+      → IsStep settled waiting label link (cond b (set waiting link.from (Some (beyond label link))) waiting)
   lowered_step free true e = written free e
   lowered_step free false e = stays (inr (not_before_new (beyond label link) (key_at waiting link.from) e))
 
-  relaxed_step : (b : Bool) → is_some (label_at settled link.from) ≡ b → IsStep settled waiting label link (cond b waiting (lowered label_cmp waiting link.from (beyond label link)))
+  relaxed_step : (b : Bool) → is_some (label_at settled link.from) ≡ b
+      → IsStep settled waiting label link (cond b waiting (lowered label_cmp waiting link.from (beyond label link)))
   relaxed_step true e = stays (inl (HasLabel-from_test (label_at settled link.from) e))
   relaxed_step false e = lowered_step (None-from_test (label_at settled link.from) e) (is_before label_cmp (Some (beyond label link)) (key_at waiting link.from)) refl
 
@@ -79,13 +93,17 @@ module _ (settled waiting : List (Option Label)) (label : Label) (link : LinkOf 
   step = relaxed_step (is_some (label_at settled link.from)) refl
 
 -- what is offered stays offered where labels only fall
-still_offered : (settled before after : List (Option Label)) (v : ℕ) (bound : Label) → ((v : ℕ) (old : Label) → label_at before v ≡ Some old → (new : Label) × (label_at after v ≡ Some new) × AtMost new old) → IsOffered (label_at settled) (label_at before) v bound → IsOffered (label_at settled) (label_at after) v bound
+still_offered : (settled before after : List (Option Label)) (v : ℕ) (bound : Label) → ((v : ℕ) (old : Label) → label_at before v ≡ Some old
+    → (new : Label) × (label_at after v ≡ Some new) × AtMost new old) → IsOffered (label_at settled) (label_at before) v bound
+    → IsOffered (label_at settled) (label_at after) v bound
 still_offered settled before after v bound lowers (inl has) = inl has
 still_offered settled before after v bound lowers (inr (old, waits, within)) =
     let low = lowers v old waits in inr (low.0, low.1, AtMost-trans low.0 old bound low.2 within)
 
 -- all links, from vertices that have a place
-pub all_relaxed_step : (settled waiting : List (Option Label)) (label : Label) (links : List (LinkOf ℕ)) → ((link : LinkOf ℕ) → Contains links link → link.from < length waiting) → IsRelaxed (Contains links) label (label_at settled) (label_at waiting) (label_at (all_relaxed settled waiting label links))
+pub all_relaxed_step : (settled waiting : List (Option Label)) (label : Label) (links : List (LinkOf ℕ))
+    → ((link : LinkOf ℕ) → Contains links link → link.from < length waiting)
+    → IsRelaxed (Contains links) label (label_at settled) (label_at waiting) (label_at (all_relaxed settled waiting label links))
 all_relaxed_step settled waiting label [] below = record {
   kept = λ v new e. inl e;
   lowers = λ v old e. (old, e, AtMost-refl old);
@@ -93,23 +111,34 @@ all_relaxed_step settled waiting label [] below = record {
 }
 all_relaxed_step settled waiting label (link ∷ links) below =
     join (step settled waiting label link (below link (0, omega arith, refl)))
-    (all_relaxed_step settled (relaxed settled waiting label link) label links (λ other has. (let lt = below other (suc has.0, omega (arith, has.1), has.2) in omega (arith, lt, length-relaxed settled waiting label link))))
+    (all_relaxed_step settled (relaxed settled waiting label link) label links
+    (λ other has. (let lt = below other (suc has.0, omega (arith, has.1), has.2) in omega (arith, lt, length-relaxed settled waiting label link))))
   where
-    join : IsStep settled waiting label link (relaxed settled waiting label link) → IsRelaxed (Contains links) label (label_at settled) (label_at (relaxed settled waiting label link)) (label_at (all_relaxed settled (relaxed settled waiting label link) label links)) → IsRelaxed (Contains (link ∷ links)) label (label_at settled) (label_at waiting) (label_at (all_relaxed settled (relaxed settled waiting label link) label links))
+    join : IsStep settled waiting label link (relaxed settled waiting label link) → IsRelaxed (Contains links) label (label_at settled)
+        (label_at (relaxed settled waiting label link)) (label_at (all_relaxed settled (relaxed settled waiting label link) label links))
+        → IsRelaxed (Contains (link ∷ links)) label (label_at settled) (label_at waiting) (label_at (all_relaxed settled (relaxed settled waiting label link) label links))
     join s r = record {
       kept = λ v new e. kept v new (r.kept v new e);
       lowers = λ v old e. (let first = s.lowers v old e in let rest = r.lowers v first.0 first.1 in (rest.0, rest.1, AtMost-trans rest.0 first.0 old rest.2 first.2));
       each = each;
     }
       where
-        kept : (v : ℕ) (new : Label) → (label_at (relaxed settled waiting label link) v ≡ Some new) ⊎ ((other : LinkOf ℕ) × (Contains links other × (other.from ≡ v) × (new ≡ beyond label other) × (label_at settled v ≡ None))) → (label_at waiting v ≡ Some new) ⊎ ((other : LinkOf ℕ) × (Contains (link ∷ links) other × (other.from ≡ v) × (new ≡ beyond label other) × (label_at settled v ≡ None)))
+        kept : (v : ℕ) (new : Label) → (label_at (relaxed settled waiting label link) v ≡ Some new)
+            ⊎ ((other : LinkOf ℕ) × (Contains links other × (other.from ≡ v) × (new ≡ beyond label other) × (label_at settled v ≡ None)))
+            → (label_at waiting v ≡ Some new)
+            ⊎ ((other : LinkOf ℕ) × (Contains (link ∷ links) other × (other.from ≡ v) × (new ≡ beyond label other) × (label_at settled v ≡ None)))
         kept v new (inl e) = first (s.kept v new e)
           where
-            first : (label_at waiting v ≡ Some new) ⊎ ((link.from ≡ v) × (new ≡ beyond label link) × (label_at settled v ≡ None)) → (label_at waiting v ≡ Some new) ⊎ ((other : LinkOf ℕ) × (Contains (link ∷ links) other × (other.from ≡ v) × (new ≡ beyond label other) × (label_at settled v ≡ None)))
+            first : (label_at waiting v ≡ Some new) ⊎ ((link.from ≡ v) × (new ≡ beyond label link) × (label_at settled v ≡ None))
+                → (label_at waiting v ≡ Some new)
+                ⊎ ((other : LinkOf ℕ) × (Contains (link ∷ links) other × (other.from ≡ v) × (new ≡ beyond label other) × (label_at settled v ≡ None)))
             first (inl was) = inl was
             first (inr h) = inr (link, ((0, omega arith, refl), h.0, h.1, h.2))
         kept v new (inr (other, h)) = inr (other, ((suc h.0.0, omega (arith, h.0.1), h.0.2), h.1, h.2, h.3))
 
-        each : (other : LinkOf ℕ) → Contains (link ∷ links) other → IsOffered (label_at settled) (label_at (all_relaxed settled (relaxed settled waiting label link) label links)) other.from (beyond label other)
-        each other (zero, lt, is) = subst (λ l. IsOffered (label_at settled) (label_at (all_relaxed settled (relaxed settled waiting label link) label links)) l.from (beyond label l)) is (still_offered settled (relaxed settled waiting label link) (all_relaxed settled (relaxed settled waiting label link) label links) link.from (beyond label link) r.lowers s.offers)
+        each : (other : LinkOf ℕ) → Contains (link ∷ links) other
+            → IsOffered (label_at settled) (label_at (all_relaxed settled (relaxed settled waiting label link) label links)) other.from (beyond label other)
+        each other (zero, lt, is) = subst (λ l. IsOffered (label_at settled) (label_at (all_relaxed settled (relaxed settled waiting label link) label links)) l.from
+            (beyond label l)) is (still_offered settled (relaxed settled waiting label link) (all_relaxed settled (relaxed settled waiting label link) label links) link.from
+            (beyond label link) r.lowers s.offers)
         each other (suc k, lt, is) = r.each other (k, omega (arith, lt), is)

@@ -39,23 +39,31 @@ length-all_relaxed settled waiting label (link ∷ links) =
     length-all_relaxed settled (relaxed settled waiting label link) label links ∙ length-relaxed settled waiting label link
 
 -- each link was relaxed, and the rest of the meaning stays
-pub shown_is : (meaning : Relaxation) (links : List (LinkOf ℕ)) → shown relaxation_after always_on meaning links ≡ record meaning { waiting = all_relaxed meaning.settled meaning.waiting meaning.label links }
+pub shown_is : (meaning : Relaxation) (links : List (LinkOf ℕ))
+    → shown relaxation_after always_on meaning links ≡ record meaning { waiting = all_relaxed meaning.settled meaning.waiting meaning.label links }
 shown_is meaning [] = refl
 shown_is meaning (link ∷ links) = shown_is (relaxation_after meaning link) links
 
 -- links that may each be relaxed among so many labels may all be shown
-Admits-from_all : (size : ℕ) (meaning : Relaxation) (links : List (LinkOf ℕ)) → length meaning.settled ≡ size → length meaning.waiting ≡ size → AllByRecursion (CanRelax size meaning.label) links → Admits relaxation_after always_on IsReady meaning links
+Admits-from_all : (size : ℕ) (meaning : Relaxation) (links : List (LinkOf ℕ)) → length meaning.settled ≡ size → length meaning.waiting ≡ size
+    → AllByRecursion (CanRelax size meaning.label) links → Admits relaxation_after always_on IsReady meaning links
 Admits-from_all size meaning [] e f each = tt
 Admits-from_all size meaning (link ∷ links) e f each = (
   record { waiting = subst (λ n. CanRelax n meaning.label link) (sym f) each.0; settled = subst (λ n. CanRelax n meaning.label link) (sym e) each.0 },
   Admits-from_all size (relaxation_after meaning link) links e (length-relaxed meaning.settled meaning.waiting meaning.label link ∙ f) each.1,
 )
 
-pub Admits-from_parts : (size : ℕ) (reference : GName) (settled waiting : List (Option Label)) (label : Label) (links : List (LinkOf ℕ)) → length settled ≡ size → length waiting ≡ size → AllByRecursion (CanRelax size label) links → Admits relaxation_after always_on IsReady (record { reference = reference; settled = settled; waiting = waiting; label = label }) links
-Admits-from_parts size reference settled waiting label links e f each = Admits-from_all size (record { reference = reference; settled = settled; waiting = waiting; label = label }) links e f each
+pub Admits-from_parts : (size : ℕ) (reference : GName) (settled waiting : List (Option Label)) (label : Label) (links : List (LinkOf ℕ)) → length settled ≡ size
+    → length waiting ≡ size → AllByRecursion (CanRelax size label) links
+    → Admits relaxation_after always_on IsReady (record { reference = reference; settled = settled; waiting = waiting; label = label }) links
+Admits-from_parts size reference settled waiting label links e f each =
+    Admits-from_all size (record { reference = reference; settled = settled; waiting = waiting; label = label }) links e f each
 
 -- what is behind a reference that the visitor still holds is what the visitor means
-pub labels_after : (reference held : GName) (settled now_settled before waiting now final : List (Option Label)) (label at : Label) (links : List (LinkOf ℕ)) → ◌≡◌ {A = Relaxation} (record { reference = held; settled = now_settled; waiting = now; label = at }) (shown relaxation_after always_on (record { reference = reference; settled = settled; waiting = waiting; label = label }) links) → (reference ≡ held → final ≡ now) → waiting ≡ before → final ≡ all_relaxed settled before label links
+pub labels_after : (reference held : GName) (settled now_settled before waiting now final : List (Option Label)) (label at : Label) (links : List (LinkOf ℕ))
+    → ◌≡◌ {A = Relaxation} (record { reference = held; settled = now_settled; waiting = now; label = at })
+    (shown relaxation_after always_on (record { reference = reference; settled = settled; waiting = waiting; label = label }) links) → (reference ≡ held → final ≡ now)
+    → waiting ≡ before → final ≡ all_relaxed settled before label links
 labels_after reference held settled now_settled before waiting now final label at links e follows was =
     let m = e ∙ shown_is (record { reference = reference; settled = settled; waiting = waiting; label = label }) links in
     let same : held ≡ reference = ap (λ (r : Relaxation). r.reference) m in

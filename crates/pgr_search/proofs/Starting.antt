@@ -12,7 +12,8 @@ pub record StartsUpTo (targets : List ℕ) (labels : List (Option Label)) (n : �
   pub others : (v : ℕ) (label : Label) → get_or labels v None ≡ Some label → Contains targets v × (label ≡ empty_label)
 
 -- one target more
-pub StartsUpTo-more : (targets : List ℕ) (labels : List (Option Label)) (n : ℕ) → n < length targets → get_or targets n 0 < length labels → StartsUpTo targets labels n → StartsUpTo targets (set labels (get_or targets n 0) (Some empty_label)) (n + 1)
+pub StartsUpTo-more : (targets : List ℕ) (labels : List (Option Label)) (n : ℕ) → n < length targets → get_or targets n 0 < length labels → StartsUpTo targets labels n
+    → StartsUpTo targets (set labels (get_or targets n 0) (Some empty_label)) (n + 1)
 StartsUpTo-more targets labels n lt below s = record {
   marked = λ k h. mark k h (cases_eq (get_or targets k 0) t);
   others = λ v label e. other v label e (cases_eq v t);
@@ -21,15 +22,19 @@ StartsUpTo-more targets labels n lt below s = record {
     t : ℕ
     t = get_or targets n 0
 
-    mark : (k : ℕ) → k < n + 1 → (get_or targets k 0 ≡ get_or targets n 0) ⊎ (get_or targets k 0 ≡ get_or targets n 0 → ⊥) → get_or (set labels (get_or targets n 0) (Some empty_label)) (get_or targets k 0) None ≡ Some empty_label
-    mark k h (inl same) = ap (λ x. get_or (set labels (get_or targets n 0) (Some empty_label)) x None) same ∙ get_or-set_same labels (get_or targets n 0) (Some empty_label) None below
+    mark : (k : ℕ) → k < n + 1 → (get_or targets k 0 ≡ get_or targets n 0) ⊎ (get_or targets k 0 ≡ get_or targets n 0 → ⊥)
+        → get_or (set labels (get_or targets n 0) (Some empty_label)) (get_or targets k 0) None ≡ Some empty_label
+    mark k h (inl same) =
+        ap (λ x. get_or (set labels (get_or targets n 0) (Some empty_label)) x None) same ∙ get_or-set_same labels (get_or targets n 0) (Some empty_label) None below
     mark k h (inr differ) =
         let earlier : k < n = ⊎_elim (λ (e : k ≡ n). absurd (differ (ap (λ x. get_or targets x 0) e))) (λ (ne : k ≡ n → ⊥). omega arith) (cases_eq k n) in
         get_or-set_other labels (get_or targets n 0) (get_or targets k 0) (Some empty_label) None differ ∙ s.marked k earlier
 
-    other : (v : ℕ) (label : Label) → get_or (set labels (get_or targets n 0) (Some empty_label)) v None ≡ Some label → (v ≡ get_or targets n 0) ⊎ (v ≡ get_or targets n 0 → ⊥) → Contains targets v × (label ≡ empty_label)
+    other : (v : ℕ) (label : Label) → get_or (set labels (get_or targets n 0) (Some empty_label)) v None ≡ Some label → (v ≡ get_or targets n 0) ⊎ (v ≡ get_or targets n 0 → ⊥)
+        → Contains targets v × (label ≡ empty_label)
     other v label e (inl same) =
-        let now : Some empty_label ≡ Some label = sym (get_or-set_same labels (get_or targets n 0) (Some empty_label) None below) ∙ ap (λ x. get_or (set labels (get_or targets n 0) (Some empty_label)) x None) (sym same) ∙ e in
+        let now : Some empty_label ≡ Some label = sym (get_or-set_same labels (get_or targets n 0) (Some empty_label) None below)
+        ∙ ap (λ x. get_or (set labels (get_or targets n 0) (Some empty_label)) x None) (sym same) ∙ e in
         (subst (λ x. Contains targets x) (sym same) (Contains-get_or targets n 0 lt), cc)
     other v label e (inr differ) =
         s.others v label (sym (get_or-set_other labels (get_or targets n 0) v (Some empty_label) None differ) ∙ e)

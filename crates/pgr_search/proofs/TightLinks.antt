@@ -5,16 +5,10 @@ use Rattle.pgr_walks.specs.declared.link.LinkOf.{LinkOf}
 use Rattle.pgr_walks.specs.declared.label.Label.{Label}
 use Rattle.pgr_walks.specs.Label.{AtMost, LeadsTo, label_of}
 use Rattle.pgr_walks.specs.Graph.{IsLinkOf, IsLawful}
+use Rattle.pgr_walks.proofs.LabelOrder.{AtMost-both}
 use Rattle.pgr_search.specs.FinalLabels.{label_at, HoldsFinalLabels}
 use Rattle.pgr_search.specs.Tight.{IsTight, BeginsTight}
 use Rattle.pgr_search.proofs.LabelOrder.{label_of-cons}
-
--- two labels that are at most each other are the same
-at_most_both : (a b : Label) → AtMost a b → AtMost b a → a ≡ b
-at_most_both a b (inl h) (inl k) = absurd (omega arith)
-at_most_both a b (inl h) (inr k) = absurd (omega (arith, k.0))
-at_most_both a b (inr h) (inl k) = absurd (omega (arith, h.0))
-at_most_both a b (inr h) (inr k) = let hops : a.hops ≡ b.hops = omega (arith, h.1, k.1) in λ i. record { cost = h.0 i; hops = hops i }
 
 -- what holds of two walks that begin with one link holds of what is left of them
 at_most_rest : (link : LinkOf ℕ) (a b : List (LinkOf ℕ)) → AtMost (label_of (link ∷ a)) (label_of (link ∷ b)) → AtMost (label_of a) (label_of b)
@@ -28,15 +22,17 @@ label_there (Some label) some = (label, refl)
 
 module _ (size : ℕ) (Has : LinkOf ℕ → Type 0) (targets : List ℕ) (labels : List (Option Label)) (holds : HoldsFinalLabels size Has targets labels) where
   -- a walk that has the label of its vertex goes on, after its first link, with a walk that has the label of its own
-  rest_label : (v : ℕ) (link : LinkOf ℕ) (rest : List (LinkOf ℕ)) → label_at labels v ≡ Some (label_of (link ∷ rest)) → LeadsTo Has targets v (link ∷ rest) → label_at labels link.to ≡ Some (label_of rest)
+  rest_label : (v : ℕ) (link : LinkOf ℕ) (rest : List (LinkOf ℕ)) → label_at labels v ≡ Some (label_of (link ∷ rest)) → LeadsTo Has targets v (link ∷ rest)
+      → label_at labels link.to ≡ Some (label_of rest)
   rest_label v link rest e leads =
       let some = label_there (label_at labels link.to) (holds.along v link rest e leads) in
       let there = holds.least link.to some.0 some.1 in
       let here = holds.least v (label_of (link ∷ rest)) e in
       let below : AtMost some.0 (label_of rest) = there.least rest (record { target = leads.target; is_target = leads.is_target; is_walk = leads.is_walk.2 }) in
-      let longer : LeadsTo Has targets v (link ∷ there.walk) = record { target = there.leads.target; is_target = there.leads.is_target; is_walk = (leads.is_walk.0, leads.is_walk.1, there.leads.is_walk) } in
+      let longer : LeadsTo Has targets v (link ∷ there.walk) =
+      record { target = there.leads.target; is_target = there.leads.is_target; is_walk = (leads.is_walk.0, leads.is_walk.1, there.leads.is_walk) } in
       let above : AtMost (label_of rest) (label_of there.walk) = at_most_rest link rest there.walk (here.least (link ∷ there.walk) longer) in
-      some.1 ∙ ap Some (at_most_both some.0 (label_of rest) below (subst (AtMost (label_of rest)) there.label_is above))
+      some.1 ∙ ap Some (AtMost-both some.0 (label_of rest) below (subst (AtMost (label_of rest)) there.label_is above))
 
   -- so its first link is tight
   pub begins_tight : BeginsTight Has targets labels
@@ -61,8 +57,10 @@ module _ (size : ℕ) (Has : LinkOf ℕ → Type 0) (targets : List ℕ) (labels
       at (inr same) = omega (arith, same.1, ap (λ l. l.hops) tight.one_more)
 
 -- out of a vertex that has a label and is no target some link is tight
-module _ (size : ℕ) (outs ins : ℕ → List (LinkOf ℕ)) (lawful : IsLawful size outs ins) (targets : List ℕ) (labels : List (Option Label)) (holds : HoldsFinalLabels size (IsLinkOf size ins) targets labels) (v : ℕ) where
-  by_walk : (label : Label) (walk : List (LinkOf ℕ)) → label_at labels v ≡ Some label → LeadsTo (IsLinkOf size ins) targets v walk → label_of walk ≡ label → Contains targets v ⊎ ((link : LinkOf ℕ) × (Contains (outs v) link × IsTight labels link))
+module _ (size : ℕ) (outs ins : ℕ → List (LinkOf ℕ)) (lawful : IsLawful size outs ins) (targets : List ℕ) (labels : List (Option Label))
+    (holds : HoldsFinalLabels size (IsLinkOf size ins) targets labels) (v : ℕ) where
+  by_walk : (label : Label) (walk : List (LinkOf ℕ)) → label_at labels v ≡ Some label → LeadsTo (IsLinkOf size ins) targets v walk → label_of walk ≡ label
+      → Contains targets v ⊎ ((link : LinkOf ℕ) × (Contains (outs v) link × IsTight labels link))
   by_walk label [] e leads is = inl (subst (Contains targets) (sym leads.is_walk) leads.is_target)
   by_walk label (link ∷ rest) e leads is =
       let has = leads.is_walk.0 in

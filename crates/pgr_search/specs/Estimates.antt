@@ -15,4 +15,5 @@ keyed values v label = record { cost = label.cost + values v; hops = label.hops 
 
 -- no vertex is labelled beyond the start: by cost and estimate together, and then by hops, each label is at most that of the start, where it has one
 abbrev pub NoneBeyond : (ℕ → ℕ) → List (Option Label) → ℕ → Type 0
-NoneBeyond values labels start = (v : ℕ) (label own : Label) → label_at labels v ≡ Some label → label_at labels start ≡ Some own → AtMost (keyed values v label) (keyed values start own)
+NoneBeyond values labels start = (v : ℕ) (label own : Label) → label_at labels v ≡ Some label → label_at labels start ≡ Some own
+    → AtMost (keyed values v label) (keyed values start own)

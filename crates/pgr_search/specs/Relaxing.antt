@@ -23,7 +23,8 @@ abbrev pub all_relaxed : List (Option Label) → List (Option Label) → Label �
 all_relaxed settled waiting label [] = waiting
 all_relaxed settled waiting label (link ∷ links) = all_relaxed settled (relaxed settled waiting label link) label links
 
--- what a visitor that relaxes links means: the reference that it holds, the labels of settled vertices, those of waiting vertices behind it, and the label of the vertex that the links lead to
+-- what a visitor that relaxes links means: the reference that it holds, the labels of settled vertices, those of waiting vertices behind it, and the label of the vertex
+-- that the links lead to
 pub record Relaxation : Type 0 where
   pub reference : GName
   pub settled : List (Option Label)

@@ -24,4 +24,5 @@ pub record IsLeastTight (links : List (LinkOf ℕ)) (labels : List (Option Label
 
 -- a walk that has the label of its vertex begins with a tight link, and what is left of it has the label of where that leads
 abbrev pub BeginsTight : (LinkOf ℕ → Type 0) → List ℕ → List (Option Label) → Type 0
-BeginsTight Has targets labels = (v : ℕ) (link : LinkOf ℕ) (rest : List (LinkOf ℕ)) → label_at labels v ≡ Some (label_of (link ∷ rest)) → LeadsTo Has targets v (link ∷ rest) → IsTight labels link × (label_at labels link.to ≡ Some (label_of rest))
+BeginsTight Has targets labels = (v : ℕ) (link : LinkOf ℕ) (rest : List (LinkOf ℕ)) → label_at labels v ≡ Some (label_of (link ∷ rest)) → LeadsTo Has targets v (link ∷ rest)
+    → IsTight labels link × (label_at labels link.to ≡ Some (label_of rest))

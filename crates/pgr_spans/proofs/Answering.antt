@@ -29,7 +29,8 @@ use Rattle.pgr_spans.proofs.Points.{point_between, no_point}
 use Rattle.pgr_spans.proofs.Bridges.{bridge_alone, no_bridge}
 use Rattle.pgr_spans.proofs.Numbering.{one_place}
 use Rattle.pgr_spans.proofs.Membership.{IsMemberOf, name_by_block, block_by_name}
-use Rattle.pgr_spans.proofs.Lists.{Contains-map, Contains-from_map, Contains-flat_map, Contains-from_flat_map, AllPairs-flat_map, AllPairs-map}
+use Rattle.pgr_outside.proofs.Lists.{Contains-map, Contains-from_map, Contains-flat_map, Contains-from_flat_map}
+use Rattle.pgr_spans.proofs.Lists.{AllPairs-flat_map, AllPairs-map}
 
 -- an id is in a list or not
 cases_contains : (xs : List ℤ) (x : ℤ) → Contains xs x ⊎ (Contains xs x → ⊥)

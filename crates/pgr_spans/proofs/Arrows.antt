@@ -13,7 +13,7 @@ use Rattle.pgr_spans.specs.Linked.{IsEndOf}
 use Rattle.pgr_spans.specs.Lists.{AreEndsOf}
 use Rattle.pgr_spans.specs.Exploring.{HasPlacesBelow}
 use Rattle.pgr_spans.specs.Network.{link_of, both_ways, AreArrows}
-use Rattle.pgr_spans.proofs.Lists.{Contains-map, Contains-from_map, Contains-flat_map, Contains-from_flat_map}
+use Rattle.pgr_outside.proofs.Lists.{Contains-map, Contains-from_map, Contains-flat_map, Contains-from_flat_map}
 
 -- the ends of links of spans are the ends of the spans
 pub ends_of_spans : (spans : List Span) (names : List ℤ) → AreEnds (map link_of spans) names → AreEndsOf spans names

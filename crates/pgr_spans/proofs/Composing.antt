@@ -22,7 +22,8 @@ use Rattle.pgr_spans.specs.Network.{link_of, AreArrows}
 use Rattle.pgr_spans.specs.Segment.{number_of, segment_by, IsSegmentBelow}
 use Rattle.pgr_spans.specs.Seen.{AreSeen}
 use Rattle.pgr_spans.specs.Member.{entry_of, member_seen, member_of, AreFound, classed_of, bridge_of, corners_of, ArePointsAt}
-use Rattle.pgr_spans.proofs.Lists.{AllPairs-map, AllPairs-from_map, AllPairs-flat_map, Contains-from_flat_map}
+use Rattle.pgr_outside.proofs.Lists.{Contains-from_flat_map}
+use Rattle.pgr_spans.proofs.Lists.{AllPairs-map, AllPairs-from_map, AllPairs-flat_map}
 use Rattle.pgr_spans.proofs.Numbering.{numbering, is_forest, segment_of_span, span_of_segment}
 use Rattle.pgr_spans.proofs.Membership.{IsMemberOf, member_of_span, span_of_member}
 use Rattle.pgr_spans.proofs.Answering.{are_classes, are_bridges, are_points}

@@ -12,7 +12,7 @@ use Rattle.std.proofs.lemmas.Map.Views.{list_any-from_Contains, Contains-from_an
 use Rattle.pgr_spans.specs.declared.span.Span.{Span}
 use Rattle.pgr_spans.specs.Linked.{IsEndOf}
 use Rattle.pgr_spans.specs.Lists.{AreEndsOf}
-use Rattle.pgr_spans.proofs.Lists.{Contains-map}
+use Rattle.pgr_outside.proofs.Lists.{Contains-map}
 
 -- the one ends of spans, and then the others
 abbrev ends_in_turn : List Span → List ℤ

@@ -13,7 +13,8 @@ use Rattle.pgr_spans.specs.declared.search.Lead.{Lead}
 use Rattle.pgr_spans.specs.Forest.{parent_of, Climbs, IsAncestor}
 use Rattle.pgr_spans.specs.Exploring.{number_at, AreRelated, IsUnder, AreLinked, IsLead, is_new, IsNumbering, IsExploring, IsDepthFirst, arrows_from, lead_along, HasPlacesBelow, left_to_do}
 use Rattle.pgr_spans.proofs.Ancestors.{ancestor_itself, ancestor_above}
-use Rattle.pgr_spans.proofs.Lists.{AllPairs-front, AllPairs-last, AllPairs-append, Contains-filter, Contains-from_filter, Contains-map, Contains-from_map}
+use Rattle.pgr_outside.proofs.Lists.{Contains-filter, Contains-from_filter, Contains-map, Contains-from_map}
+use Rattle.pgr_spans.proofs.Lists.{AllPairs-front, AllPairs-last, AllPairs-append}
 
 -- how much a vertex counts among those without a number
 abbrev as_new : Option ℕ → ℕ

@@ -5,7 +5,6 @@ pub mod Ancestors
 pub mod SameBlock
 pub mod Lists
 pub mod Exploring
-pub mod Runs
 pub mod LowPoints
 pub mod TopSteps
 pub mod Gathering

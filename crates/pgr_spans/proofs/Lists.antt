@@ -1,9 +1,10 @@
--- Lists: pairs of elements, what a filter keeps and what images there are.
-use Rattle.std.proofs.Common.{◌≡◌, ◌⊎◌, inl, inr, ℕ, zero, suc, ◌+◌, ◌-◌, ◌<◌, ◌≤◌, Bool, true, false, cond, List, [], ◌∷◌, ◌++◌, length, get_or, map, take, drop, refl, sym, subst, ◌∙◌, ap, arith}
-use Rattle.std.specs.List.{Contains, AllPairs, filter, flat_map}
+-- Lists: pairs of elements.
+use Rattle.std.proofs.Common.{◌≡◌, ◌⊎◌, inl, inr, ℕ, suc, ◌+◌, ◌-◌, ◌<◌, ◌≤◌, List, [], ◌∷◌, ◌++◌, length, get_or, map, take, drop, refl, sym, subst, ◌∙◌, ap, arith}
+use Rattle.std.specs.List.{Contains, AllPairs, flat_map}
 use Rattle.std.proofs.lemmas.Bool.{cases_lt}
 use Rattle.std.proofs.lemmas.List.{get_or_append_left, get_or-append-add, length-append, length_push, get_or_push, length-map, get_or-map, append-nil, drop_all, take_all}
-use Rattle.std.proofs.lemmas.List.Elements.{Contains-get_or, Contains-append_left, Contains-append_right, Contains-append_cases}
+use Rattle.std.proofs.lemmas.List.Elements.{Contains-get_or}
+use Rattle.pgr_outside.proofs.Lists.{Contains-from_flat_map}
 
 -- pairs of the front of a list
 pub AllPairs-front : {X : Type 0} (R : X → X → Type 0) (xs ys : List X) → AllPairs R (xs ++ ys) → AllPairs R xs
@@ -45,68 +46,6 @@ AllPairs-append R xs ys first second across i j d before inside = by (cases_lt i
   by (inr i_out) (inr j_out) =
       subst (λ y. R (get_or (xs ++ ys) i d) y) (sym (in_second j j_out))
       (subst (λ x. R x (get_or ys (j - length xs) d)) (sym (in_second i i_out)) (second (i - length xs) (j - length xs) d (omega arith) (omega (arith, length-append xs ys))))
-
--- what passes a filter
-pub Contains-filter : {X : Type 0} (p : X → Bool) (xs : List X) (x : X) → Contains xs x → p x ≡ true → Contains (filter p xs) x
-Contains-filter p [] x (k, inside, is) passes = absurd (omega arith)
-Contains-filter p (y ∷ ys) x (zero, inside, is) passes =
-    let here : p y ≡ true = ap p is ∙ passes in
-    let step : filter p (y ∷ ys) ≡ y ∷ filter p ys = ap (λ b. cond b (y ∷ filter p ys) (filter p ys)) here in
-    subst (λ zs. Contains zs x) (sym step) (0, omega arith, is)
-Contains-filter p (y ∷ ys) x (suc k, inside, is) passes =
-    let (n, below, at) = Contains-filter p ys x (k, omega arith, is) passes in
-    by (p y) refl (n, below, at) where
-      by : (b : Bool) → p y ≡ b → Contains (filter p ys) x → Contains (cond (p y) (y ∷ filter p ys) (filter p ys)) x
-      by true e (m, m_below, m_at) = subst (λ b. Contains (cond b (y ∷ filter p ys) (filter p ys)) x) (sym e) (suc m, omega arith, m_at)
-      by false e found = subst (λ b. Contains (cond b (y ∷ filter p ys) (filter p ys)) x) (sym e) found
-
--- and what passed it
-pub Contains-from_filter : {X : Type 0} (p : X → Bool) (xs : List X) (x : X) → Contains (filter p xs) x → Contains xs x × (p x ≡ true)
-Contains-from_filter p [] x (k, inside, is) = absurd (omega arith)
-Contains-from_filter p (y ∷ ys) x found = by (p y) refl found (λ rest. Contains-from_filter p ys x rest) where
-  by : (b : Bool) → p y ≡ b → Contains (cond (p y) (y ∷ filter p ys) (filter p ys)) x → (Contains (filter p ys) x → Contains ys x × (p x ≡ true))
-      → Contains (y ∷ ys) x × (p x ≡ true)
-  by true e there on = head (subst (λ b. Contains (cond b (y ∷ filter p ys) (filter p ys)) x) e there) where
-    head : Contains (y ∷ filter p ys) x → Contains (y ∷ ys) x × (p x ≡ true)
-    head (zero, inside, is) = ((0, omega arith, is), ap p (sym is) ∙ e)
-    head (suc k, inside, is) = let ((n, below, at), passes) = on (k, omega arith, is) in ((suc n, omega arith, at), passes)
-  by false e there on =
-      let ((n, below, at), passes) = on (subst (λ b. Contains (cond b (y ∷ filter p ys) (filter p ys)) x) e there) in
-      ((suc n, omega arith, at), passes)
-
--- an image is among the images
-pub Contains-map : {X Y : Type 0} (f : X → Y) (xs : List X) (x : X) → Contains xs x → Contains (map f xs) (f x)
-Contains-map f [] x (k, inside, is) = absurd (omega arith)
-Contains-map f (y ∷ ys) x (zero, inside, is) = (0, omega arith, ap f is)
-Contains-map f (y ∷ ys) x (suc k, inside, is) = let (n, below, at) = Contains-map f ys x (k, omega arith, is) in (suc n, omega arith, at)
-
--- and what is among them is one
-pub Contains-from_map : {X Y : Type 0} (f : X → Y) (xs : List X) (y : Y) → Contains (map f xs) y → (x : X) × Contains xs x × (y ≡ f x)
-Contains-from_map f [] y (k, inside, is) = absurd (omega arith)
-Contains-from_map f (x ∷ xs) y (zero, inside, is) = (x, (0, omega arith, refl), sym is)
-Contains-from_map f (x ∷ xs) y (suc k, inside, is) =
-    let (z, (n, below, at), same) = Contains-from_map f xs y (k, omega arith, is) in
-    (z, (suc n, omega arith, at), same)
-
--- what one of the lists of a flat map has is in it
-pub Contains-flat_map : {X Y : Type 0} (f : X → List Y) (xs : List X) (x : X) (y : Y) → Contains xs x → Contains (f x) y → Contains (flat_map f xs) y
-Contains-flat_map f [] x y (k, inside, is) has = absurd (omega arith)
-Contains-flat_map f (z ∷ zs) x y (zero, inside, is) has =
-    Contains-append_left (f z) (flat_map f zs) y (subst (λ w. Contains (f w) y) (sym is) has)
-Contains-flat_map f (z ∷ zs) x y (suc k, inside, is) has =
-    Contains-append_right (f z) (flat_map f zs) y (Contains-flat_map f zs x y (k, omega arith, is) has)
-
--- an element of the first list, or of a later one
-from_first : {X Y : Type 0} (f : X → List Y) (z : X) (zs : List X) (y : Y) → Contains (f z) y ⊎ Contains (flat_map f zs) y
-    → (Contains (flat_map f zs) y → (x : X) × Contains zs x × Contains (f x) y) → (x : X) × Contains (z ∷ zs) x × Contains (f x) y
-from_first f z zs y (inl here) on = (z, (0, omega arith, refl), here)
-from_first f z zs y (inr later) on = let (x, (k, inside, is), among) = on later in (x, (suc k, omega arith, is), among)
-
--- and nothing else
-pub Contains-from_flat_map : {X Y : Type 0} (f : X → List Y) (xs : List X) (y : Y) → Contains (flat_map f xs) y → (x : X) × Contains xs x × Contains (f x) y
-Contains-from_flat_map f [] y (k, inside, is) = absurd (omega arith)
-Contains-from_flat_map f (z ∷ zs) y has =
-    from_first f z zs y (Contains-append_cases (f z) (flat_map f zs) y has) (λ rest. Contains-from_flat_map f zs y rest)
 
 -- pairs of a list with one more element in front, taken apart
 pub AllPairs-head : {X : Type 0} (R : X → X → Type 0) (x y : X) (xs : List X) → AllPairs R (x ∷ xs) → Contains xs y → R x y

@@ -22,7 +22,7 @@ use Rattle.pgr_spans.specs.Member.{entry_of, member_of, member_seen, AreFound}
 use Rattle.pgr_spans.proofs.Outside.{cases_id, block_sym, block_trans, loop_alone}
 use Rattle.pgr_spans.proofs.SameBlock.{block_by_top, top_by_block}
 use Rattle.pgr_spans.proofs.Numbering.{IsSegmentOf}
-use Rattle.pgr_spans.proofs.Lists.{Contains-map, Contains-from_map, Contains-flat_map, Contains-from_flat_map}
+use Rattle.pgr_outside.proofs.Lists.{Contains-map, Contains-from_map, Contains-flat_map, Contains-from_flat_map}
 
 -- two spans of one edge are one
 pub one_span : (spans : List Span) → HaveRisingEdges spans → (s t : Span) → Contains spans s → Contains spans t → s.edge ≡ t.edge → s ≡ t

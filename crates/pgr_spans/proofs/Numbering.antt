@@ -18,7 +18,7 @@ use Rattle.pgr_spans.specs.Exploring.{number_at, AreRelated, AreLinked, IsDepthF
 use Rattle.pgr_spans.specs.Network.{link_of, AreArrows}
 use Rattle.pgr_spans.specs.Segment.{number_of, segment_by}
 use Rattle.pgr_spans.proofs.Ancestors.{ancestor_le}
-use Rattle.pgr_spans.proofs.Lists.{Contains-map, Contains-from_map}
+use Rattle.pgr_outside.proofs.Lists.{Contains-map, Contains-from_map}
 
 -- the place of an id in a list
 abbrev pub place_of : List ℤ → ℤ → ℕ

@@ -10,7 +10,7 @@ use Rattle.pgr_spans.specs.declared.seen.Entry.{Entry}
 use Rattle.pgr_spans.specs.Forest.{parent_of, ParentsFall, IsTop}
 use Rattle.pgr_spans.specs.Segment.{top_by, IsSegmentBelow}
 use Rattle.pgr_spans.specs.Member.{entry_of}
-use Rattle.pgr_spans.proofs.Lists.{Contains-from_flat_map}
+use Rattle.pgr_outside.proofs.Lists.{Contains-from_flat_map}
 
 module _ (parents : List (Option ℕ)) (lows tops : List ℕ) (v top : ℕ) (falls : ParentsFall parents) (size : length tops ≡ v)
     (is : top ≡ top_by tops v (parent_of parents v) (get_or lows v 0)) where

@@ -49,7 +49,8 @@ abbrev count_of : Rule × FieldValue → ℕ
 count_of value = if is_summed value.0.check then counted (number_of value.1) else 0
 
 -- what a column counts in the sum of a row, by whether it is summed
-summed-head : (kind : List Rule) (row : List FieldValue) (rule : Rule) (value : FieldValue) → rule.check ≡ Summed → sum_of_row (rule ∷ kind) (value ∷ row) ≡ counted (number_of value) + sum_of_row kind row
+summed-head : (kind : List Rule) (row : List FieldValue) (rule : Rule) (value : FieldValue) → rule.check ≡ Summed
+    → sum_of_row (rule ∷ kind) (value ∷ row) ≡ counted (number_of value) + sum_of_row kind row
 summed-head kind row rule value e = sum_by-cons (count_of) (rule, value) (zip kind row) ∙ rw e refl
 
 free-head : (kind : List Rule) (row : List FieldValue) (rule : Rule) (value : FieldValue) → (rule.check ≡ Summed → ⊥) → sum_of_row (rule ∷ kind) (value ∷ row) ≡ sum_of_row kind row

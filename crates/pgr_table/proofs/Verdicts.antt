@@ -25,7 +25,8 @@ pub verdict-header : (kind : List Rule) (columns : List Found) (all later : List
 verdict-header kind columns all later header e none found = rw (e, found, none) refl
 
 -- a header with a fault
-pub verdict-columns : {Table : Type 0} (seen : Table → List (List FieldValue)) (kind : List Rule) (all later : List (List (List ℕ))) (header : List (List ℕ)) (refused : TableRefused)
+pub verdict-columns : {Table : Type 0} (seen : Table → List (List FieldValue)) (kind : List Rule) (all later : List (List (List ℕ))) (header : List (List ℕ))
+    (refused : TableRefused)
     → all ≡ header ∷ later → IsFault refused (columns_fault header kind)
     → IsVerdictSeen seen (Err refused) (judged_records kind all)
 verdict-columns seen kind all later header (Fault fault) e f = rw (e, f) refl

@@ -10,6 +10,7 @@ use Rattle.pgr_walks.specs.Walk.{IsWalk, IsWithoutRepeats, cost_of, hops_of, ver
 use Rattle.pgr_walks.specs.Label.{AtMost, IsLeastLabel, label_of}
 use Rattle.pgr_walks.specs.Graph.{Fits, greatest}
 use Rattle.pgr_walks.specs.Loopless.{CanBeLoopless}
+use Rattle.pgr_walks.proofs.LabelOrder.{AtMost-cost, AtMost-hops}
 use Rattle.pgr_walks.proofs.Repeats.{Among, Apart, among_or_not, IsDistinct-from_Apart, IsWithoutRepeats-from_Apart, Apart-from_IsWithoutRepeats}
 
 -- a walk that comes to no vertex twice, of at most this cost and this many links
@@ -101,16 +102,6 @@ loopless_is_short size Has ends s t walk below w apart =
     let few = length-le_from_distinct_below (vertices_of s walk) size (IsDistinct-from_Apart (vertices_of s walk) (Apart-from_IsWithoutRepeats (vertices_of s walk) apart))
     (vertices_below size Has ends s t walk below w) in
     simp length-map at few
-
--- what is at most another costs at most as much
-AtMost-cost : (a b : Label) → AtMost a b → a.cost ≤ b.cost
-AtMost-cost a b (inl less) = omega arith
-AtMost-cost a b (inr same) = omega (arith, same.0)
-
--- and has no more hops, where the other costs no more
-AtMost-hops : (a b : Label) → AtMost a b → b.cost ≤ a.cost → a.hops ≤ b.hops
-AtMost-hops a b (inl less) h = absurd (omega arith)
-AtMost-hops a b (inr same) h = same.1
 
 -- what costs no more than any walk costs no more than a loopless route, and nothing between equal ends
 least_cost : {V : Type 0} (Has : LinkOf V → Type 0) → Fits Has → (s t : V) (label : Label) (other : List (LinkOf V)) → IsWalk Has s other t

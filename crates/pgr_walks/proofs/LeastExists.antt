@@ -1,5 +1,5 @@
 -- A set of walks from which cycles can be taken out has a least walk: only finitely many walks come to no vertex twice, and each walk comes after one of them.
-use Rattle.std.proofs.Common.{◌≡◌, ◌≢◌, ℕ, zero, suc, ◌<◌, ◌≤◌, Bool, true, false, List, [], ◌∷◌, ◌++◌, map, Contains, get_or, length, refl, sym, ap, ◌∙◌, subst, arith, ◌⊎◌, inl, inr, Ordering, Less, Equal, Greater}
+use Rattle.std.proofs.Common.{◌≡◌, ◌≢◌, ℕ, zero, suc, ◌<◌, ◌≤◌, Bool, true, false, List, [], ◌∷◌, map, Contains, length, refl, sym, ap, ◌∙◌, subst, arith, ◌⊎◌, inl, inr, Ordering, Less, Equal, Greater}
 use Rattle.std.specs.Prelude.{slice_get}
 use Rattle.std.specs.List.{flat_map}
 use Rattle.std.specs.Ordering.{nat_cmp, is_gt, ordering_then, ordering_reverse}
@@ -15,33 +15,8 @@ use Rattle.pgr_walks.specs.Walk.{IsWithoutRepeats, IsWalk, cost_of, hops_of, ver
 use Rattle.pgr_walks.specs.RouteOrder.{route_cmp, IsLeast}
 use Rattle.pgr_walks.specs.RouteOrders.{route_total, without_links, IsClosedUnderCuts, cut_cost, cut_hops, comes_after, least_is_loopless}
 use Rattle.pgr_walks.proofs.Repeats.{Among, Apart, get-from_Among, IsWithoutRepeats-from_Apart, among_or_not}
+use Rattle.pgr_walks.proofs.Membership.{Among-from_Contains, Among-map, Among-flat_map}
 use Rattle.pgr_walks.proofs.CycleRemoval.{loopless_is_short}
-
--- what stands in one of two lists stands in both, one after the other
-among_left : {X : Type 0} (x : X) (xs ys : List X) → Among x xs → Among x (xs ++ ys)
-among_left x [] ys h = absurd h
-among_left x (y ∷ xs) ys (inl e) = inl e
-among_left x (y ∷ xs) ys (inr h) = inr (among_left x xs ys h)
-
-among_right : {X : Type 0} (x : X) (xs ys : List X) → Among x ys → Among x (xs ++ ys)
-among_right x [] ys h = h
-among_right x (y ∷ xs) ys h = inr (among_right x xs ys h)
-
--- and its image among the images
-among_map : {X Y : Type 0} (f : X → Y) (x : X) (xs : List X) → Among x xs → Among (f x) (map f xs)
-among_map f x [] h = absurd h
-among_map f x (y ∷ xs) (inl e) = inl (ap f e)
-among_map f x (y ∷ xs) (inr h) = inr (among_map f x xs h)
-
-among_flat_map : {X Y : Type 0} (f : X → List Y) (x : X) (xs : List X) (y : Y) → Among x xs → Among y (f x) → Among y (flat_map f xs)
-among_flat_map f x [] y h k = absurd h
-among_flat_map f x (z ∷ xs) y (inl e) k = among_left y (f z) (flat_map f xs) (subst (λ a. Among y (f a)) (sym e) k)
-among_flat_map f x (z ∷ xs) y (inr h) k = among_right y (f z) (flat_map f xs) (among_flat_map f x xs y h k)
-
-among_from_place : {X : Type 0} (x : X) (xs : List X) (k : ℕ) → k < length xs → get_or xs k x ≡ x → Among x xs
-among_from_place x [] k h e = absurd (omega arith)
-among_from_place x (y ∷ xs) zero h e = inl e
-among_from_place x (y ∷ xs) (suc k) h e = inr (among_from_place x xs k (omega arith) e)
 
 -- all walks from a vertex with at most n links
 walks_within : (ℕ → List (LinkOf ℕ)) → ℕ → ℕ → List (List (LinkOf ℕ))
@@ -55,10 +30,9 @@ in_walks outs Has stands zero s t [] w few = inl refl
 in_walks outs Has stands zero s t (link ∷ rest) w few = absurd (omega arith)
 in_walks outs Has stands (suc n) s t [] w few = inl refl
 in_walks outs Has stands (suc n) s t (link ∷ rest) w few =
-    let at = stands link w.0 in
-    let among : Among link (outs s) = subst (λ v. Among link (outs v)) w.1 (among_from_place link (outs link.from) at.0 at.1 at.2) in
-    inr (among_flat_map (λ (x : LinkOf ℕ). map (λ (r : List (LinkOf ℕ)). x ∷ r) (walks_within outs n x.to)) link (outs s) (link ∷ rest) among
-    (among_map (λ (r : List (LinkOf ℕ)). link ∷ r) rest (walks_within outs n link.to) (in_walks outs Has stands n link.to t rest w.2 (omega arith))))
+    let among : Among link (outs s) = subst (λ v. Among link (outs v)) w.1 (Among-from_Contains link (outs link.from) (stands link w.0)) in
+    inr (Among-flat_map (λ (x : LinkOf ℕ). map (λ (r : List (LinkOf ℕ)). x ∷ r) (walks_within outs n x.to)) (outs s) link (link ∷ rest) among
+    (Among-map (λ (r : List (LinkOf ℕ)). link ∷ r) (walks_within outs n link.to) rest (in_walks outs Has stands n link.to t rest w.2 (omega arith))))
 
 -- one element doesn't come after another
 abbrev NotAfter : {X : Type 0} → (X → X → Ordering) → X → X → Type 0

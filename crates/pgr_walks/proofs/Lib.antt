@@ -1,8 +1,9 @@
 pub mod Shows
 pub mod Rising
-pub mod Runs
 pub mod PartPlaces
 pub mod Repeats
+pub mod Membership
+pub mod LabelOrder
 pub mod CycleRemoval
 pub mod SmallCosts
 pub mod LeastExists

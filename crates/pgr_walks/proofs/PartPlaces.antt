@@ -7,7 +7,7 @@ use Rattle.std.proofs.lemmas.Bool.Decides.{nat_tests}
 use Rattle.std.proofs.lemmas.List.{length-append, length-drop, get_or-drop, get_or_default, get_or_append_left}
 use Rattle.std.proofs.Math.Seq.{get_or-append_seam}
 use Rattle.pgr_walks.specs.Parts.{IsBeginning, AreBeginnings}
-use Rattle.pgr_walks.proofs.Runs.{run_is}
+use Rattle.pgr_outside.proofs.Runs.{run_is}
 use Rattle.pgr_walks.proofs.Repeats.{element_at}
 
 below_ltb : (x v : ℕ) → x < v → ltb x v ≡ true

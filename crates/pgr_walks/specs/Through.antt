@@ -26,12 +26,14 @@ abbrev pub IsReadyFor : {M : Type 0} → (M → LinkOf ℕ → Type 0) → M →
 IsReadyFor ready meaning None = Unit {0}
 IsReadyFor ready meaning (Some link) = ready meaning link
 
--- the same of a visitor that passes on what a function makes of each link
+-- the meaning after a link of a visitor that passes on what a function makes of each link
 abbrev pub after_through : {W M : Type 0} → (W → LinkOf ℕ → Option (LinkOf ℕ)) → (M → LinkOf ℕ → M) → Through W M → LinkOf ℕ → Through W M
 after_through change after meaning link = passed_on after meaning (change meaning.by link)
 
+-- its answer to a link: what the visitor answers to the link that is passed on
 abbrev pub answer_through : {W M : Type 0} → (W → LinkOf ℕ → Option (LinkOf ℕ)) → (M → LinkOf ℕ → Next) → Through W M → LinkOf ℕ → Next
 answer_through change answer meaning link = answer_to answer meaning.inner (change meaning.by link)
 
+-- it is ready for a link where the visitor is ready for the one that is passed on
 abbrev pub IsReadyThrough : {W M : Type 0} → (W → LinkOf ℕ → Option (LinkOf ℕ)) → (M → LinkOf ℕ → Type 0) → Through W M → LinkOf ℕ → Type 0
 IsReadyThrough change ready meaning link = IsReadyFor ready meaning.inner (change meaning.by link)

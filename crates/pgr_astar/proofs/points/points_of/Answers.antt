@@ -17,7 +17,9 @@ note_row-requires-clause-place c = row_placed c.args.table.now c.loop-i.i c.row-
 
 pub loop-i-preserved : goal.loop-i-preserved
 loop-i-preserved c =
-    one_row_more c.args.table.now c.args.names.now c.loop-i.i c.row-row.result _ _ c.requires c.row-row.ensures (omega (arith, c.len-i-end.ensures.len, c.loop-i-test.true)) c.loop-i.invariant c.note_row.ensures.size c.note_row.ensures.notes
+    one_row_more c.args.table.now c.args.names.now c.loop-i.i c.row-row.result _ _ c.requires c.row-row.ensures
+    (omega (arith, c.len-i-end.ensures.len, c.loop-i-test.true)) c.loop-i.invariant c.note_row.ensures.size c.note_row.ensures.notes
 
 pub returns : goal.returns
-returns c = subst (λ rows. ArePoints rows c.args.names.now c.loop-i.points.items) (take_all c.loop-i.i c.args.table.now (omega (arith, c.len-i-end.ensures.len, c.loop-i-test.false))) c.loop-i.invariant
+returns c = subst (λ rows. ArePoints rows c.args.names.now c.loop-i.points.items)
+    (take_all c.loop-i.i c.args.table.now (omega (arith, c.len-i-end.ensures.len, c.loop-i-test.false))) c.loop-i.invariant

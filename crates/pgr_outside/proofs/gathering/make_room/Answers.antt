@@ -1,5 +1,5 @@
 -- What was gathered and then the text: both are one run of bytes.
-use Rattle.std.proofs.Common.{refl, [], ◌++◌, ◌≡◌, ◌∙◌, ap, subst}
+use Rattle.std.proofs.Common.{◌++◌, ◌∙◌, ap}
 use Rattle.pgr_outside.specs.Faults.{OnErr-always}
 use Rattle.pgr_outside.specs.Sink.{with_added, with_added-twice, AddsPrefix-first, AddsPrefix-second, HasGained-all}
 use Rattle.pgr_outside.proofs.gathering.make_room.Goals as goal

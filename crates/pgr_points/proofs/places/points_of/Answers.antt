@@ -11,7 +11,7 @@ use Rattle.pgr_table.specs.declared.row.PointRow.{PointRow}
 use Rattle.pgr_table.specs.Points.{IsPoint}
 use Rattle.pgr_points.specs.Places.{place_cmp}
 use Rattle.pgr_points.specs.Senses.{points_of, AreInOrder}
-use Rattle.pgr_points.proofs.Runs.{run_is}
+use Rattle.pgr_outside.proofs.Runs.{part_is}
 use Rattle.pgr_points.proofs.PlaceLemmas.{edges_below, edges_up_to, between_edges, below_edge, above_edge, points_good, points_in_order, rising_drop}
 use Rattle.pgr_points.proofs.places.points_of.Goals as goal
 
@@ -32,7 +32,7 @@ points_are c =
     IsPartitionPoint-from_clause low placed first c.partition_point.ensures.partitioned (edges_below placed c.requires.rising edge) (λ a r f h. search (rules, ints)) in
     let up_part : P rest = IsPartitionPoint-from_clause up rest count c.partition_point-2.ensures.partitioned
     (subst R (sym rest_is) (edges_up_to (drop first placed) (rising_drop placed first c.requires.rising) edge)) (λ a r f h. search (rules, ints)) in
-    c.split_at-2.ensures.front ∙ (ap (take count) rest_is ∙ run_is low up (λ point. int_eq point.edge_id edge) (λ point. between_edges point.edge_id edge)
+    c.split_at-2.ensures.front ∙ (ap (take count) rest_is ∙ part_is low up (λ point. int_eq point.edge_id edge) (λ point. between_edges point.edge_id edge)
     (λ point. below_edge point.edge_id edge) (λ point. above_edge point.edge_id edge) placed first count low_part (subst P rest_is up_part) c.partition_point.ensures.bound
     (subst Q rest_is c.partition_point-2.ensures.bound))
 

@@ -1,7 +1,7 @@
 use Rattle.std.proofs.Common.{List, [], ◌∷◌, ◌++◌, sym, ap, ◌∙◌, arith}
 use Rattle.std.proofs.lemmas.List.{take_all}
 use Rattle.pgr_table.specs.declared.row.PointRow.{PointRow}
-use Rattle.pgr_points.proofs.Lists.{take_one_more}
+use Rattle.pgr_outside.proofs.Lists.{take_one_more}
 use Rattle.pgr_points.proofs.places.rows_of.Goals as goal
 
 pub loop-i-init : goal.loop-i-init

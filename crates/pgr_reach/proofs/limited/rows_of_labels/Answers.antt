@@ -16,7 +16,8 @@ loop-v-preserved g c =
     elim c.match-label.branch [
       | in-Some+in_ok-push w ↦
           subst P (sym (ap (λ list. list.items) w.rows-is ∙ w.in_ok-push.ensures.items))
-          (next_some outs labels root v rows c.loop-v.invariant w.row_of.result w.row_of.ensures.node (sym c.label.ensures ∙ w.in-Some.is ∙ sym (ap Some w.row_of.ensures.label)) w.row_of.ensures.link)
+          (next_some outs labels root v rows c.loop-v.invariant w.row_of.result w.row_of.ensures.node
+          (sym c.label.ensures ∙ w.in-Some.is ∙ sym (ap Some w.row_of.ensures.label)) w.row_of.ensures.link)
       | in_default w ↦
           subst P (sym (ap (λ list. list.items) w.rows-is)) (next_none outs labels root v rows c.loop-v.invariant (sym c.label.ensures ∙ w.in_default.is))
     ]

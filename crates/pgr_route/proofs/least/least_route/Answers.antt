@@ -16,15 +16,18 @@ loop-link-preserved g c =
     let link = c.in-Some.link in
     let from : link.from ≡ c.loop-link.at = c.in-Some.ensures.from in
     let least = c.in-Some.ensures.least in
-    let best : IsBest size (g.G.Graph.outs c.args.g.now) c.args.room.now link = record { from_in = omega arith; least = subst (λ v. IsLeastTight (g.G.Graph.outs c.args.g.now v) c.args.room.now link) (sym from) least } in
+    let best : IsBest size (g.G.Graph.outs c.args.g.now) c.args.room.now link =
+    record { from_in = omega arith; least = subst (λ v. IsLeastTight (g.G.Graph.outs c.args.g.now v) c.args.room.now link) (sym from) least } in
     record {
       within = (law.out_ends link least.among).1;
       labelled = rw least.tight.there_is refl;
-      best = rw c.in_ok-push.ensures (walk_push (IsBest size (g.G.Graph.outs c.args.g.now) c.args.room.now) c.args.from c.loop-link.links.items c.loop-link.at link c.loop-link.invariant.best best from);
+      best = rw c.in_ok-push.ensures
+          (walk_push (IsBest size (g.G.Graph.outs c.args.g.now) c.args.room.now) c.args.from c.loop-link.links.items c.loop-link.at link c.loop-link.invariant.best best from);
     }
 
 pub of-requires-clause-chain : goal.of-requires-clause-chain
-of-requires-clause-chain g c = walk_chain (IsBest (g.G.Graph.count c.args.g.now) (g.G.Graph.outs c.args.g.now) c.args.room.now) c.args.from c.loop-link.links.items c.loop-link.at c.loop-link.invariant.best
+of-requires-clause-chain g c = walk_chain
+    (IsBest (g.G.Graph.count c.args.g.now) (g.G.Graph.outs c.args.g.now) c.args.room.now) c.args.from c.loop-link.links.items c.loop-link.at c.loop-link.invariant.best
 
 pub of-requires-clause-cost : goal.of-requires-clause-cost
 of-requires-clause-cost g c =
@@ -34,4 +37,6 @@ of-requires-clause-cost g c =
 pub returns-clause-least : goal.returns-clause-least
 returns-clause-least g c = λ targets holds.
     let last = label_there (label_at c.args.room.now c.loop-link.at) c.loop-link.invariant.labelled in
-    rw c.of.ensures (best_is_least _ _ _ _ (g.met.G.Graph.lawful c.args.g.now) targets holds.final (c.least_walks_follow_tight_links.ensures.first targets c.args.room.now holds.final) c.loop-link.links.items c.args.from c.loop-link.at last.0 c.loop-link.invariant.best last.1 c.in_default.ensures.none)
+    rw c.of.ensures (best_is_least _ _ _ _ (g.met.G.Graph.lawful c.args.g.now) targets holds.final
+    (c.least_walks_follow_tight_links.ensures.first targets c.args.room.now holds.final) c.loop-link.links.items c.args.from c.loop-link.at last.0
+    c.loop-link.invariant.best last.1 c.in_default.ensures.none)

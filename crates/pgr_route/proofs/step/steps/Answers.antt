@@ -11,5 +11,6 @@ pub returns : goal.returns
 returns c =
     let links = c.links-links.result.now in
     let same = c.links-links.ensures.links in
-    let whole = steps_all c.args.names.now links c.loop-link.link-index c.loop-link.reached no_link c.loop-link.steps.items (λ e. c.requires.links (sym same ∙ e)) (omega arith) c.loop-link.invariant.cost c.loop-link.invariant.steps in
+    let whole = steps_all c.args.names.now links c.loop-link.link-index c.loop-link.reached no_link c.loop-link.steps.items
+    (λ e. c.requires.links (sym same ∙ e)) (omega arith) c.loop-link.invariant.cost c.loop-link.invariant.steps in
     cc (whole, same, c.in_ok-push-2.ensures, c.last_step.ensures)

@@ -4,18 +4,27 @@ use Rattle.pgr_search.proofs.guided.guide.Goals as goal
 
 pub loop-keys-init : goal.loop-keys-init
 loop-keys-init g c = record {
-  guiding = starts_guiding (g.G.Graph.count c.args.g.now) (g.G.Graph.ins c.args.g.now) c.args.targets.now (g.E.Estimate.values c.args.estimate.now) c.clear.new.self c.mark_with_estimates.new.keys (c.clear.ensures.size ∙ c.requires.settled) (c.mark_with_estimates.ensures.size ∙ c.requires.keys) c.clear.ensures.none c.mark_with_estimates.ensures.marks;
+  guiding = starts_guiding (g.G.Graph.count c.args.g.now) (g.G.Graph.ins c.args.g.now) c.args.targets.now
+      (g.E.Estimate.values c.args.estimate.now) c.clear.new.self c.mark_with_estimates.new.keys (c.clear.ensures.size ∙ c.requires.settled)
+      (c.mark_with_estimates.ensures.size ∙ c.requires.keys) c.clear.ensures.none c.mark_with_estimates.ensures.marks;
   within = starts_within (g.E.Estimate.values c.args.estimate.now) c.clear.new.self c.args.start c.clear.ensures.none;
 }
 
 pub loop-keys-preserved : goal.loop-keys-preserved
 loop-keys-preserved g c = record {
-  guiding = round_guiding _ _ _ (g.met.G.Graph.lawful c.args.g.now) _ _ c.requires.consistent _ _ c.loop-keys.invariant.guiding c.in-Some.nearest c.in-Some.ensures.least c.settle_guided.new.settled c.settle_guided.new.keys c.settle_guided.ensures.settled c.settle_guided.ensures.keys;
-  within = round_within _ _ _ (g.met.G.Graph.lawful c.args.g.now) _ _ c.requires.consistent _ _ c.loop-keys.invariant.guiding c.in-Some.nearest c.in-Some.ensures.least c.settle_guided.new.settled c.settle_guided.new.keys c.settle_guided.ensures.settled c.settle_guided.ensures.keys c.args.start (sym c.label.ensures ∙ None-from_test c.label.result c.loop-keys-test.ensures);
+  guiding = round_guiding _ _ _
+      (g.met.G.Graph.lawful c.args.g.now) _ _ c.requires.consistent _ _ c.loop-keys.invariant.guiding c.in-Some.nearest c.in-Some.ensures.least c.settle_guided.new.settled
+      c.settle_guided.new.keys c.settle_guided.ensures.settled c.settle_guided.ensures.keys;
+  within = round_within _ _ _
+      (g.met.G.Graph.lawful c.args.g.now) _ _ c.requires.consistent _ _ c.loop-keys.invariant.guiding c.in-Some.nearest c.in-Some.ensures.least c.settle_guided.new.settled
+      c.settle_guided.new.keys c.settle_guided.ensures.settled c.settle_guided.ensures.keys c.args.start
+      (sym c.label.ensures ∙ None-from_test c.label.result c.loop-keys-test.ensures);
 }
 
 pub loop-keys-smaller : goal.loop-keys-smaller
-loop-keys-smaller g c = fewer_left _ _ _ (g.met.G.Graph.lawful c.args.g.now) _ _ c.requires.consistent _ _ c.loop-keys.invariant.guiding c.in-Some.nearest c.in-Some.ensures.least c.settle_guided.new.settled c.settle_guided.new.keys c.settle_guided.ensures.settled c.settle_guided.ensures.keys
+loop-keys-smaller g c = fewer_left _ _ _
+    (g.met.G.Graph.lawful c.args.g.now) _ _ c.requires.consistent _ _ c.loop-keys.invariant.guiding c.in-Some.nearest c.in-Some.ensures.least c.settle_guided.new.settled
+    c.settle_guided.new.keys c.settle_guided.ensures.settled c.settle_guided.ensures.keys
 
 pub settle_guided-requires : goal.settle_guided-requires
 settle_guided-requires g c =
@@ -34,7 +43,9 @@ settle_guided-requires g c =
     }
 
 pub returns-in-None-clause-labels : goal.returns-in-None-clause-labels
-returns-in-None-clause-labels g c = known_all _ _ _ (g.met.G.Graph.lawful c.args.g.now) _ _ c.requires.consistent _ _ c.loop-keys.invariant.guiding c.in-None.ensures.none c.args.start
+returns-in-None-clause-labels g c =
+    known_all _ _ _ (g.met.G.Graph.lawful c.args.g.now) _ _ c.requires.consistent _ _ c.loop-keys.invariant.guiding c.in-None.ensures.none c.args.start
 
 pub returns-clause-labels : goal.returns-clause-labels
-returns-clause-labels g c = known_labelled _ _ _ (g.met.G.Graph.lawful c.args.g.now) _ _ c.requires.consistent _ _ c.loop-keys.invariant.guiding c.args.start c.label.result c.label.ensures c.loop-keys-test.ensures
+returns-clause-labels g c = known_labelled _ _ _
+    (g.met.G.Graph.lawful c.args.g.now) _ _ c.requires.consistent _ _ c.loop-keys.invariant.guiding c.args.start c.label.result c.label.ensures c.loop-keys-test.ensures

@@ -4,7 +4,8 @@ use Rattle.pgr_search.proofs.search.search.Goals as goal
 
 pub loop-nearest-init : goal.loop-nearest-init
 loop-nearest-init g c = record {
-  running = starts_running (g.G.Graph.count c.args.g.now) (g.G.Graph.ins c.args.g.now) c.args.targets.now c.args.bound c.clear.new.self c.mark_targets.new.waiting (c.clear.ensures.size ∙ c.requires.settled) (c.mark_targets.ensures.size ∙ c.requires.waiting) c.clear.ensures.none c.mark_targets.ensures.marks;
+  running = starts_running (g.G.Graph.count c.args.g.now) (g.G.Graph.ins c.args.g.now) c.args.targets.now c.args.bound c.clear.new.self c.mark_targets.new.waiting
+      (c.clear.ensures.size ∙ c.requires.settled) (c.mark_targets.ensures.size ∙ c.requires.waiting) c.clear.ensures.none c.mark_targets.ensures.marks;
   reached = starts_reached c.args.bound c.clear.new.self;
 }
 
@@ -13,13 +14,17 @@ loop-nearest-preserved g c =
     let run = c.loop-nearest.invariant.running in
     let below = nearest_below _ _ _ (g.met.G.Graph.lawful c.args.g.now) _ _ _ _ run c.in-Some.nearest c.in-Some.ensures.least in
     record {
-      running = round_running _ _ _ (g.met.G.Graph.lawful c.args.g.now) _ _ _ _ run c.in-Some.nearest c.in-Some.ensures.least c.settle.new.settled c.settle.new.waiting c.settle.ensures.settled c.settle.ensures.waiting c.in-Some.ensures.before;
-      reached = still_reached c.args.bound c.loop-nearest.settled c.settle.new.settled c.next.new.reached c.in-Some.nearest.vertex c.in-Some.nearest.key (omega (arith, below, run.settled_len)) c.settle.ensures.settled c.in-Some.ensures.reached;
+      running = round_running _ _ _
+          (g.met.G.Graph.lawful c.args.g.now) _ _ _ _ run c.in-Some.nearest c.in-Some.ensures.least c.settle.new.settled c.settle.new.waiting c.settle.ensures.settled
+          c.settle.ensures.waiting c.in-Some.ensures.before;
+      reached = still_reached c.args.bound c.loop-nearest.settled c.settle.new.settled c.next.new.reached c.in-Some.nearest.vertex c.in-Some.nearest.key
+          (omega (arith, below, run.settled_len)) c.settle.ensures.settled c.in-Some.ensures.reached;
     }
 
 pub loop-nearest-smaller : goal.loop-nearest-smaller
 loop-nearest-smaller g c =
-    fewer_left _ _ _ (g.met.G.Graph.lawful c.args.g.now) _ _ _ _ c.loop-nearest.invariant.running c.in-Some.nearest c.in-Some.ensures.least c.settle.new.settled c.settle.new.waiting c.settle.ensures.settled c.settle.ensures.waiting
+    fewer_left _ _ _ (g.met.G.Graph.lawful c.args.g.now) _ _ _ _ c.loop-nearest.invariant.running c.in-Some.nearest c.in-Some.ensures.least c.settle.new.settled
+    c.settle.new.waiting c.settle.ensures.settled c.settle.ensures.waiting
 
 pub settle-requires : goal.settle-requires
 settle-requires g c =
@@ -29,7 +34,8 @@ settle-requires g c =
       settled = run.settled_len;
       waiting = run.waiting_len;
       waits = nearest_waits _ _ _ (g.met.G.Graph.lawful c.args.g.now) _ _ _ _ run c.in-Some.nearest c.in-Some.ensures.least;
-      links = round_fits _ _ _ (g.met.G.Graph.lawful c.args.g.now) _ _ _ _ run c.in-Some.nearest c.in-Some.ensures.least c.requires.small c.requires.fits c.least_labels_are_small.ensures;
+      links = round_fits _ _ _
+          (g.met.G.Graph.lawful c.args.g.now) _ _ _ _ run c.in-Some.nearest c.in-Some.ensures.least c.requires.small c.requires.fits c.least_labels_are_small.ensures;
     }
 
 pub returns : goal.returns

@@ -3,7 +3,7 @@ use Rattle.std.proofs.Common.{◌≡◌, ◌≤◌, List, length, take, drop, tr
 use Rattle.std.specs.List.Sorted.{IsPartitionPoint, IsNonDecreasingBy}
 use Rattle.std.proofs.lemmas.List.Sorted.{IsPartitionPoint-from_clause, IsPartitionedBy-ltb, IsPartitionedBy-leb, IsNonDecreasingBy-drop}
 use Rattle.pgr_spans.specs.declared.arrow.Arrow.{Arrow}
-use Rattle.pgr_spans.proofs.Runs.{run_is}
+use Rattle.pgr_outside.proofs.Runs.{run_is}
 use Rattle.pgr_spans.proofs.search.run_from.Goals as goal
 
 pub returns : goal.returns

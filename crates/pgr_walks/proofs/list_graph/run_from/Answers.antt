@@ -3,7 +3,7 @@ use Rattle.std.proofs.Common.{◌≡◌, ◌≤◌, ℕ, List, length, take, dro
 use Rattle.std.specs.List.Sorted.{IsPartitionPoint, IsNonDecreasingBy}
 use Rattle.std.proofs.lemmas.List.Sorted.{IsPartitionPoint-from_clause, IsPartitionedBy-ltb, IsPartitionedBy-leb, IsNonDecreasingBy-drop}
 use Rattle.pgr_walks.specs.declared.link.LinkOf.{LinkOf}
-use Rattle.pgr_walks.proofs.Runs.{run_is}
+use Rattle.pgr_outside.proofs.Runs.{run_is}
 use Rattle.pgr_walks.proofs.list_graph.run_from.Goals as goal
 
 pub returns : goal.returns

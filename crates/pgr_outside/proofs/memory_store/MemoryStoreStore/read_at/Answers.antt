@@ -6,7 +6,8 @@ use Rattle.pgr_outside.proofs.memory_store.MemoryStoreStore.read_at.Goals.{in_de
 
 pub returns-in-Some-clause-bytes : goal.returns-in-Some-clause-bytes
 returns-in-Some-clause-bytes c =
-    ReadsAt-copy _ c.in-Some.bytes.now c.args.buf.now c.copy_front.new.buf c.args.at c.self.inside.most _ (search rules) c.self.invariant (search rules) (search rules) (search rules)
+    ReadsAt-copy _ c.in-Some.bytes.now c.args.buf.now c.copy_front.new.buf c.args.at c.self.inside.most _ (search rules) c.self.invariant (search rules) (search rules)
+    (search rules)
 
 pub returns-in_default-clause-fails : goal.returns-in_default-clause-fails
 returns-in_default-clause-fails c = (

@@ -10,10 +10,15 @@ pub push-requires-clause-ids : goal.push-requires-clause-ids
 push-requires-clause-ids c = rw (c.capacity.ensures, c.as_slice.ensures.value) (makes_capacity c.args.values.now.items c.requires.row).ids
 
 pub push-requires-clause-sum : goal.push-requires-clause-sum
-push-requires-clause-sum c = rw (c.capacity.ensures, c.as_slice.ensures.value, ← sum_of_capacities-push c.args.self.now c.args.values.now.items (makes_capacity c.args.values.now.items c.requires.row).values_are) c.requires.sum
+push-requires-clause-sum c = rw (
+  c.capacity.ensures,
+  c.as_slice.ensures.value,
+  ← sum_of_capacities-push c.args.self.now c.args.values.now.items (makes_capacity c.args.values.now.items c.requires.row).values_are,
+) c.requires.sum
 
 pub push-requires-clause-new : goal.push-requires-clause-new
-push-requires-clause-new c = rw (c.capacity.ensures, c.as_slice.ensures.value) (sym (is_repeat-rows capacity_kind values_of_capacity (λ (row : CapacityRow). row.id) capacity_values c.args.self.now
+push-requires-clause-new c =
+    rw (c.capacity.ensures, c.as_slice.ensures.value) (sym (is_repeat-rows capacity_kind values_of_capacity (λ (row : CapacityRow). row.id) capacity_values c.args.self.now
     c.args.values.now.items (capacity_of c.args.values.now.items).id (makes_capacity c.args.values.now.items c.requires.row).id) ∙ c.requires.new)
 
 pub push-requires-clause-few : goal.push-requires-clause-few

@@ -13,6 +13,7 @@ pub returns : goal.returns
 returns c =
     let fits : SFits w64 c.number_in.result = search rules in
     let found = rw (to_z-of_z {w = w64} {z = c.number_in.result} fits) at c.has_id.ensures in
-    let repeat = is_repeat-rows capacity_kind values_of_capacity (λ (row : CapacityRow). row.id) capacity_values c.args.self.now c.args.values.now (capacity_of c.args.values.now).id
+    let repeat = is_repeat-rows capacity_kind values_of_capacity
+    (λ (row : CapacityRow). row.id) capacity_values c.args.self.now c.args.values.now (capacity_of c.args.values.now).id
     (makes_capacity c.args.values.now c.requires).id in
     (found ∙ ap (λ (id : ℤ). list_any (λ (row : CapacityRow). int_eq id row.id) c.args.self.now) c.number_in.ensures ∙ sym repeat)

@@ -13,7 +13,11 @@ pub push-requires-clause-place : goal.push-requires-clause-place
 push-requires-clause-place c = rw (c.edge.ensures, c.as_slice.ensures.value) (makes_edge c.args.values.now.items c.requires.row).place
 
 pub push-requires-clause-sum : goal.push-requires-clause-sum
-push-requires-clause-sum c = rw (c.edge.ensures, c.as_slice.ensures.value, ← sum_of_costs-push edge_kind sum_of_row-edge c.args.self.now c.args.values.now.items (makes_edge c.args.values.now.items c.requires.row).values_are) c.requires.sum
+push-requires-clause-sum c = rw (
+  c.edge.ensures,
+  c.as_slice.ensures.value,
+  ← sum_of_costs-push edge_kind sum_of_row-edge c.args.self.now c.args.values.now.items (makes_edge c.args.values.now.items c.requires.row).values_are,
+) c.requires.sum
 
 pub push-requires-clause-new : goal.push-requires-clause-new
 push-requires-clause-new c = rw (c.edge.ensures, c.as_slice.ensures.value) (sym (is_repeat-rows edge_kind values_of_edge (λ (row : EdgeRow). row.id) edge_values c.args.self.now

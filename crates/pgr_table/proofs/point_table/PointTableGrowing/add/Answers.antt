@@ -10,7 +10,8 @@ pub push-requires-clause-point : goal.push-requires-clause-point
 push-requires-clause-point c = rw (c.point.ensures, c.as_slice.ensures.value) (makes_point c.args.values.now.items c.requires.row).point
 
 pub push-requires-clause-new : goal.push-requires-clause-new
-push-requires-clause-new c = rw (c.point.ensures, c.as_slice.ensures.value) (sym (is_repeat-rows point_kind values_of_point (λ (row : PointRow). row.pid) point_values c.args.self.now
+push-requires-clause-new c =
+    rw (c.point.ensures, c.as_slice.ensures.value) (sym (is_repeat-rows point_kind values_of_point (λ (row : PointRow). row.pid) point_values c.args.self.now
     c.args.values.now.items (point_of c.args.values.now.items).pid (makes_point c.args.values.now.items c.requires.row).id) ∙ c.requires.new)
 
 pub push-requires-clause-few : goal.push-requires-clause-few
