@@ -1,10 +1,14 @@
 -- Small cases of the links of a row, computed.
-use Rattle.std.proofs.Common.{◌≡◌, ℤ, pos, ℕ, List, [], ◌∷◌, refl, true, false, inl, inr}
+use Rattle.std.proofs.Common.{◌≡◌, ℤ, pos, ℕ, [], ◌∷◌, refl, ap, true, false, inl, arith}
 use Rattle.std.specs.Prelude.{negsuc, None, Some}
 use Rattle.pgr_table.specs.declared.fault.TableFault.TheVariants.{CostSum}
 use Rattle.pgr_table.specs.declared.row.EdgeRow.{EdgeRow}
+use Rattle.pgr_table.specs.declared.row.CapacityRow.{CapacityRow}
 use Rattle.pgr_graph.specs.Restricted.{links_cost, restricted_fault}
+use Rattle.pgr_walks.specs.declared.link.LinkOf.{LinkOf}
+use Rattle.pgr_graph.specs.Arcs.{capacity_along, arc_along, IsArcOfRow}
 use Rattle.pgr_graph.specs.Links.{HasSense, IsLinkOfRow, link_along}
+use Rattle.pgr_graph.specs.declared.links.Direction.{Direction}
 use Rattle.pgr_graph.specs.declared.links.Direction.TheVariants.{Forward, Backward}
 
 -- a row from 1 to 2 of cost 0 there and none back, and a self loop of cost 4 both ways
@@ -55,3 +59,27 @@ one_list_fits = refl
 
 two_lists_are_too_many : restricted_fault (dear ∷ []) true ((pos 7 ∷ []) ∷ [] ∷ (pos 8 ∷ []) ∷ (pos 9 ∷ []) ∷ []) ≡ Some (CostSum 4)
 two_lists_are_too_many = refl
+
+-- arcs: a row from 1 to 2 with capacity 3 there and 0 back, and one with equal ends
+abbrev pipe : CapacityRow
+pipe = record { id = pos 5; source = pos 1; target = pos 2; capacity = pos 3; reverse_capacity = pos 0 }
+
+abbrev ring : CapacityRow
+ring = record { id = pos 6; source = pos 3; target = pos 3; capacity = pos 4; reverse_capacity = pos 4 }
+
+-- a positive capacity is an arc's
+a_positive_capacity_is_an_arc : IsArcOfRow pipe (record { from = pos 1; edge = pos 5; cost = 3; to = pos 2 })
+a_positive_capacity_is_an_arc = record { apart = λ same. cc; positive = omega arith; direction = Forward; capacity = refl; along = refl }
+
+-- a capacity of 0 gives no arc back
+a_capacity_of_zero_is_no_arc : (cost : ℕ) → IsArcOfRow pipe (record { from = pos 2; edge = pos 5; cost = cost; to = pos 1 }) → ⊥
+a_capacity_of_zero_is_no_arc cost has = back has.direction has.capacity has.along
+  where
+    back : (direction : Direction) → capacity_along pipe direction ≡ pos cost
+        → record { from = pos 2; edge = pos 5; cost = cost; to = pos 1 } ≡ arc_along pipe direction cost → ⊥
+    back Forward capacity along = let from : pos 2 ≡ pos 1 = ap (λ (l : LinkOf ℤ). l.from) along in absurd cc
+    back Backward capacity along = let zero_cost : 0 ≡ cost = cc capacity in omega (arith, zero_cost, has.positive)
+
+-- a row with equal ends gives no arc
+equal_ends_give_no_arc : (arc : LinkOf ℤ) → IsArcOfRow ring arc → ⊥
+equal_ends_give_no_arc arc has = has.apart refl

@@ -3,4 +3,7 @@ pub mod TableLinks
 pub mod TableFits
 pub mod Examples
 mod OneCost
+mod ArcLists
+mod ArcOrder
+mod NetworkArcs
 mod Restricting

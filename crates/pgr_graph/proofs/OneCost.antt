@@ -1,8 +1,8 @@
 -- What the links of a table cost, however they are listed: lists without repeats that have the same elements have the same sum, and
 -- one such list is made row by row.
 use Rattle.std.proofs.Common.{◌≡◌, ◌≢◌, ℕ, zero, suc, ◌+◌, ◌*◌, ◌<◌, length, ◌⊎◌, ◌↔◌, inl, inr, ⊎_elim, ℤ, pos, negsuc, List, [], ◌∷◌, ◌++◌, map, Bool, true, false, if◌then◌else◌, refl, sym, ap, subst, ◌∙◌, arith}
-use Rattle.std.specs.Prelude.{sum_by, slice_index_or}
-use Rattle.std.specs.List.{Contains, Any}
+use Rattle.std.specs.Prelude.{slice_index_or}
+use Rattle.std.specs.List.{Contains}
 use Rattle.std.specs.Ordering.{int_eq}
 use Rattle.std.proofs.lemmas.Bool.Decides.{Decides-int_eq}
 use Rattle.std.proofs.lemmas.List.Sums.{sum_by-cons}
@@ -50,7 +50,7 @@ without link (first ∷ links) (inr h) =
     )
 
 -- lists without repeats that have the same elements cost the same
-same_cost : (xs ys : List (LinkOf ℤ)) → Apart xs → Apart ys → ((link : LinkOf ℤ) → Among link xs → Among link ys) → ((link : LinkOf ℤ) → Among link ys → Among link xs)
+pub same_cost : (xs ys : List (LinkOf ℤ)) → Apart xs → Apart ys → ((link : LinkOf ℤ) → Among link xs → Among link ys) → ((link : LinkOf ℤ) → Among link ys → Among link xs)
     → cost_of xs ≡ cost_of ys
 same_cost [] [] a b to from = refl
 same_cost [] (y ∷ ys) a b to from = absurd (from y (inl refl))
@@ -64,7 +64,7 @@ same_cost (x ∷ xs) ys a b to from =
     omega arith
 
 -- an element of a list, by places and by cases
-Among-from_Contains : {X : Type 0} (xs : List X) (x : X) → Contains xs x → Among x xs
+pub Among-from_Contains : {X : Type 0} (xs : List X) (x : X) → Contains xs x → Among x xs
 Among-from_Contains {X} xs x h = at xs h.0 h.1 h.2
   where
     at : (xs : List X) (k : ℕ) → k < length xs → slice_index_or xs k x ≡ x → Among x xs
@@ -72,22 +72,22 @@ Among-from_Contains {X} xs x h = at xs h.0 h.1 h.2
     at (y ∷ ys) zero below e = inl e
     at (y ∷ ys) (suc k) below e = inr (at ys k (omega arith) e)
 
-Contains-from_Among : {X : Type 0} (xs : List X) (x : X) → Among x xs → Contains xs x
+pub Contains-from_Among : {X : Type 0} (xs : List X) (x : X) → Among x xs → Contains xs x
 Contains-from_Among [] x h = absurd h
 Contains-from_Among (y ∷ ys) x (inl e) = (0, omega arith, e)
 Contains-from_Among (y ∷ ys) x (inr h) = let c = Contains-from_Among ys x h in (suc c.0, omega (arith, c.1), c.2)
 
 -- an element of a list put behind another
-Among-append_left : {X : Type 0} (x : X) (xs ys : List X) → Among x xs → Among x (xs ++ ys)
+pub Among-append_left : {X : Type 0} (x : X) (xs ys : List X) → Among x xs → Among x (xs ++ ys)
 Among-append_left x [] ys h = absurd h
 Among-append_left x (z ∷ xs) ys (inl e) = inl e
 Among-append_left x (z ∷ xs) ys (inr h) = inr (Among-append_left x xs ys h)
 
-Among-append_right : {X : Type 0} (x : X) (xs ys : List X) → Among x ys → Among x (xs ++ ys)
+pub Among-append_right : {X : Type 0} (x : X) (xs ys : List X) → Among x ys → Among x (xs ++ ys)
 Among-append_right x [] ys h = h
 Among-append_right x (z ∷ xs) ys h = inr (Among-append_right x xs ys h)
 
-Among-append : {X : Type 0} (x : X) (xs ys : List X) → Among x (xs ++ ys) → Among x xs ⊎ Among x ys
+pub Among-append : {X : Type 0} (x : X) (xs ys : List X) → Among x (xs ++ ys) → Among x xs ⊎ Among x ys
 Among-append x [] ys h = inr h
 Among-append x (z ∷ xs) ys (inl e) = inl (inl e)
 Among-append x (z ∷ xs) ys (inr h) = ⊎_elim (λ k. inl (inr k)) inr (Among-append x xs ys h)
@@ -99,7 +99,7 @@ Apart-append (x ∷ xs) ys a b none = (
   Apart-append xs ys a.1 b (λ z h k. none z (inr h) k),
 )
 
-cost_of-append : (xs ys : List (LinkOf ℤ)) → cost_of (xs ++ ys) ≡ cost_of xs + cost_of ys
+pub cost_of-append : (xs ys : List (LinkOf ℤ)) → cost_of (xs ++ ys) ≡ cost_of xs + cost_of ys
 cost_of-append [] ys = omega arith
 cost_of-append (x ∷ xs) ys = let more = cost_of-append xs ys in omega arith
 

@@ -1,5 +1,7 @@
 pub mod Links
 pub mod Senses
+pub mod Arcs
+pub mod ArcSenses
 pub use Rattle.pgr_walks.specs.Link
 pub use Rattle.pgr_walks.specs.Walk
 pub use Rattle.pgr_walks.specs.RouteOrder

@@ -87,7 +87,7 @@ fn link_of_sense(row: EdgeRow, direction: Direction, cost: i64) -> Option<NamedL
 }
 
 /// Appends the link, if there is one.
-fn push(links: &mut Vec<NamedLink>, link: Option<NamedLink>) -> Result<(), NoMemory>
+pub(crate) fn push(links: &mut Vec<NamedLink>, link: Option<NamedLink>) -> Result<(), NoMemory>
     ensures items { OnOk result (links.new.items ≡ links.old.items ++ option_to_list link) }
     ensures few { OnOk result (vec_len links.new ≤ vec_len links.old + 1) }
 {

@@ -1,4 +1,4 @@
-use Rattle.std.proofs.Common.{arith, ◌∙◌, ap, sym}
+use Rattle.std.proofs.Common.{arith}
 use Rattle.pgr_graph.proofs.Restricting.{table_cost-more}
 use Rattle.pgr_graph.proofs.restricted.cost_of_links.Goals as goal
 
