@@ -1,7 +1,7 @@
 -- Small cases of flows, values and cuts, computed.
-use Rattle.std.proofs.Common.{◌≡◌, ℕ, pos, Bool, true, false, List, [], ◌∷◌, nat_eq, refl, arith}
+use Rattle.std.proofs.Common.{◌≡◌, ℕ, pos, List, [], ◌∷◌, nat_eq, refl}
 use Rattle.pgr_walks.specs.declared.link.LinkOf.{LinkOf}
-use Rattle.pgr_flow.specs.Flow.{sum_where, AreWithin, HasValue, among, leaving, entering}
+use Rattle.pgr_flow.specs.Flow.{sum_where, HasValue, among}
 use Rattle.pgr_flow.specs.Cut.{capacity_of}
 
 abbrev arc : ℕ → ℕ → ℕ → ℕ → LinkOf ℕ

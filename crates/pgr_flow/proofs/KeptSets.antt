@@ -1,5 +1,5 @@
 -- Where every vertex of a set keeps the flow, so does the set: vertex by vertex, up to the size.
-use Rattle.std.proofs.Common.{◌≡◌, ℕ, ◌+◌, ◌<◌, ◌≤◌, zero, suc, Bool, true, false, cond, ◌&&◌, List, [], ◌∷◌, ltb, eqb, nat_eq, refl, sym, ap, ◌∙◌, ⊎_elim, arith, All}
+use Rattle.std.proofs.Common.{◌≡◌, ℕ, ◌+◌, ◌<◌, zero, suc, Bool, true, false, cond, ◌&&◌, List, [], ◌∷◌, ltb, eqb, nat_eq, refl, sym, ap, ◌∙◌, ⊎_elim, arith, All}
 use Rattle.std.specs.List.{AllByRecursion}
 use Rattle.std.proofs.Math.Bool.{and-true}
 use Rattle.std.proofs.lemmas.Bool.{cases_eq}
@@ -7,7 +7,7 @@ use Rattle.std.proofs.lemmas.Bool.Decides.{nat_tests}
 use Rattle.std.proofs.lemmas.List.Elements.{recursion_from_All}
 use Rattle.pgr_walks.specs.declared.link.LinkOf.{LinkOf}
 use Rattle.pgr_walks.specs.ListGraph.{HasEndsBelow}
-use Rattle.pgr_flow.specs.Flow.{sum_where, leaving, entering}
+use Rattle.pgr_flow.specs.Flow.{leaving, entering}
 use Rattle.pgr_flow.proofs.Sums.{sum_where-split, sum_where-agree, sum_where-none}
 
 ltb_same : (x n : ℕ) → x ≡ n → (ltb x (suc n) ≡ true) × ((ltb x n ≡ false) × (eqb n x ≡ true))
@@ -48,11 +48,13 @@ and_false false = refl
 below_size : (D : ℕ → Bool) (x n : ℕ) → x < n → (D x && ltb x n) ≡ D x
 below_size D x n h = ap (λ p. D x && p) (is_below x n h) ∙ and-true (D x)
 
-starts_agree : (D : ℕ → Bool) (size : ℕ) (arcs : List (LinkOf ℕ)) → AllByRecursion (HasEndsBelow size) arcs → AllByRecursion (λ (a : LinkOf ℕ). (D a.from && ltb a.from size) ≡ D a.from) arcs
+starts_agree : (D : ℕ → Bool) (size : ℕ) (arcs : List (LinkOf ℕ)) → AllByRecursion (HasEndsBelow size) arcs
+    → AllByRecursion (λ (a : LinkOf ℕ). (D a.from && ltb a.from size) ≡ D a.from) arcs
 starts_agree D size [] h = h
 starts_agree D size (a ∷ arcs) h = (below_size D a.from size h.0.0, starts_agree D size arcs h.1)
 
-ends_agree : (D : ℕ → Bool) (size : ℕ) (arcs : List (LinkOf ℕ)) → AllByRecursion (HasEndsBelow size) arcs → AllByRecursion (λ (a : LinkOf ℕ). (D a.to && ltb a.to size) ≡ D a.to) arcs
+ends_agree : (D : ℕ → Bool) (size : ℕ) (arcs : List (LinkOf ℕ)) → AllByRecursion (HasEndsBelow size) arcs
+    → AllByRecursion (λ (a : LinkOf ℕ). (D a.to && ltb a.to size) ≡ D a.to) arcs
 ends_agree D size [] h = h
 ends_agree D size (a ∷ arcs) h = (below_size D a.to size h.0.1, ends_agree D size arcs h.1)
 
@@ -65,7 +67,8 @@ module _ (arcs : List (LinkOf ℕ)) (flows : List ℕ) (D : ℕ → Bool) (kept 
   none_below x = ap (λ p. D x && p) (not_below_zero x) ∙ and_false (D x)
 
   kept_below : (n : ℕ) → leaving (λ x. D x && ltb x n) arcs flows ≡ entering (λ x. D x && ltb x n) arcs flows
-  kept_below zero = sum_where-none (λ a. D a.from && ltb a.from 0) (λ a. none_below a.from) arcs flows ∙ sym (sum_where-none (λ a. D a.to && ltb a.to 0) (λ a. none_below a.to) arcs flows)
+  kept_below zero = sum_where-none (λ a. D a.from && ltb a.from 0) (λ a. none_below a.from) arcs flows
+      ∙ sym (sum_where-none (λ a. D a.to && ltb a.to 0) (λ a. none_below a.to) arcs flows)
   kept_below (suc n) = omega (
     arith,
     sum_where-split (λ (a : LinkOf ℕ). D a.from && ltb a.from (suc n)) (λ a. D a.from && ltb a.from n) (λ a. D n && eqb n a.from) (λ a m. one_more D a.from n m) arcs flows,

@@ -1,4 +1,13 @@
 pub mod Sums
 pub mod KeptSets
 pub mod Across
+pub mod Pushing
+pub mod Tight
+pub mod Beginnings
+pub mod Searching
+pub mod Passing
+pub mod Descents
+pub mod Sendings
+pub mod Rounds
+pub mod Finale
 pub mod Examples

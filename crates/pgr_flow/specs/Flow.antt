@@ -1,5 +1,5 @@
 -- Flows over arcs, their values, and greatest flows, as Ford and Fulkerson 1956. An arc is a link whose cost is its capacity.
-use Rattle.std.specs.Prelude.{◌≡◌, ℕ, ◌+◌, ◌≤◌, Bool, true, false, cond, List, [], ◌∷◌}
+use Rattle.std.specs.Prelude.{◌≡◌, ℕ, ◌+◌, ◌≤◌, Bool, false, cond, List, [], ◌∷◌}
 use Rattle.std.specs.List.{list_any}
 use Rattle.pgr_walks.specs.declared.link.LinkOf.{LinkOf}
 
