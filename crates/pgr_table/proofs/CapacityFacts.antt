@@ -1,11 +1,10 @@
 -- Rows of capacities and their values.
-use Rattle.std.proofs.Common.{◌≡◌, ℕ, ◌+◌, ◌≤◌, ◌<◌, false, List, [], ◌∷◌, ◌++◌, length, map, Some, All, refl, arith, length-append}
+use Rattle.std.proofs.Common.{◌≡◌, ◌≤◌, ◌<◌, false, List, [], ◌∷◌, ◌++◌, length, map, Some, refl, arith, length-append}
 use Rattle.std.specs.List.{list_any}
 use Rattle.std.specs.Ordering.{int_eq}
 use Rattle.std.proofs.lemmas.List.{map-append}
 use Rattle.std.proofs.lemmas.List.Elements.{All-push}
 use Rattle.pgr_numerals.specs.Numeral.{id_of, whole_of, whole_or_empty}
-use Rattle.pgr_outside.specs.Lists.{IsWithoutRepeats}
 use Rattle.pgr_table.specs.declared.row.CapacityRow.{CapacityRow}
 use Rattle.pgr_table.specs.declared.field_value.FieldValue.{FieldValue}
 use Rattle.pgr_table.specs.Rows.{most_rows, greatest}

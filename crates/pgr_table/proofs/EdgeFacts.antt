@@ -1,19 +1,18 @@
 -- Edges and their values.
-use Rattle.std.proofs.Common.{◌≡◌, ℕ, ◌+◌, ◌≤◌, ◌<◌, List, [], ◌∷◌, ◌++◌, length, map, Option, Some, None, All, refl, sym, ap, ◌∙◌, arith, ℤ, length-append, Bool, true, false, if◌then◌else◌}
-use Rattle.std.specs.Prelude.{IfSome, IsSome, nat_lt}
+use Rattle.std.proofs.Common.{◌≡◌, ◌≤◌, ◌<◌, List, [], ◌∷◌, ◌++◌, length, map, Option, Some, None, refl, sym, arith, length-append, false}
+use Rattle.std.specs.Prelude.{IfSome, IsSome}
 use Rattle.std.specs.List.{list_any}
 use Rattle.std.specs.Ordering.{int_eq}
 use Rattle.std.proofs.lemmas.List.{map-append}
 use Rattle.std.proofs.lemmas.List.Elements.{All-push}
 use Rattle.pgr_numerals.specs.Numeral.{id_of, whole_of, whole_or_empty, whole_within}
-use Rattle.pgr_outside.specs.Lists.{IsWithoutRepeats}
 use Rattle.pgr_table.specs.declared.row.EdgeRow.{EdgeRow}
 use Rattle.pgr_table.specs.declared.row.Place.{Place}
 use Rattle.pgr_table.specs.declared.kind.Rule.{Rule}
 use Rattle.pgr_table.specs.declared.field_value.FieldValue.{FieldValue}
 use Rattle.pgr_table.specs.Kinds.{most_coordinate}
 use Rattle.pgr_table.specs.Rows.{most_rows, greatest}
-use Rattle.pgr_table.specs.Edges.{edge_kind, placed_edge_kind, costs_of, sum_of_costs, IsId, HasIds, IsPlace, AreAccepted, edge_of, place_of, place_behind, values_of_edge, HasPlaces}
+use Rattle.pgr_table.specs.Edges.{edge_kind, placed_edge_kind, costs_of, sum_of_costs, HasIds, IsPlace, AreAccepted, edge_of, place_of, place_behind, values_of_edge, HasPlaces}
 use Rattle.pgr_table.specs.Kept.{IsRow}
 use Rattle.pgr_table.specs.Judging.{id_of_row, sum_of, sum_of_row}
 use Rattle.pgr_table.proofs.FieldValues.{is-number, is-id, is-coordinate}

@@ -1,17 +1,16 @@
 -- What the values of columns are, by their grammars.
-use Rattle.std.proofs.Common.{◌≡◌, ℕ, ◌*◌, ◌^◌, ◌≤◌, ◌<◌, Bool, true, false, ◌&&◌, List, [], ◌∷◌, length, take, Option, Some, None, refl, sym, ap, ◌∙◌, arith, ℤ, pos, option_map, if◌then◌else◌}
-use Rattle.std.specs.Prelude.{nat_le, nat_lt, option_and_then, unsigned_abs, ◌==◌}
+use Rattle.std.proofs.Common.{◌≡◌, ℕ, ◌≤◌, Bool, true, false, ◌&&◌, List, [], ◌∷◌, Option, Some, None, refl, arith, ℤ, pos, option_map, if◌then◌else◌}
+use Rattle.std.specs.Prelude.{nat_le, option_and_then, unsigned_abs, ◌==◌}
 use Rattle.std.specs.List.{list_all}
 use Rattle.std.specs.Str.Parse.{digits_value}
 use Rattle.std.proofs.lemmas.Bool.{leb-true}
-use Rattle.pgr_numerals.specs.Numeral.{is_digit, digits_up_to, id_of, positive_of, i64_of, whole_of, whole_or_empty, whole_within, are_zeros}
-use Rattle.pgr_numerals.specs.Fraction.{proper, tenths_of, decimal_of, slashed_of, fraction_at_slash, fraction_around, fraction_of}
+use Rattle.pgr_numerals.specs.Numeral.{is_digit, digits_up_to, id_of, positive_of, whole_of, whole_within}
 use Rattle.pgr_numerals.specs.declared.fraction.Fraction.{Fraction}
 use Rattle.pgr_outside.specs.declared.side.Side.{Side}
 use Rattle.pgr_table.specs.declared.field_value.FieldValue.{FieldValue}
 use Rattle.pgr_table.specs.declared.field_value.FieldValue.TheVariants.{Number, Part, Along, Numbers}
 use Rattle.pgr_table.specs.Values.{number_of, part_of, side_of, numbers_in}
-use Rattle.pgr_table.specs.Kinds.{most_coordinate, side_of_field}
+use Rattle.pgr_table.specs.Kinds.{most_coordinate}
 use Rattle.pgr_table.specs.Rows.{greatest}
 use Rattle.pgr_table.specs.Edges.{IsId, IsCoordinate}
 use Rattle.pgr_table.specs.Points.{IsPid}

@@ -1,5 +1,5 @@
 -- Rows under their ids: a look-up by id, and one more row.
-use Rattle.std.proofs.Common.{◌≡◌, ◌≢◌, ℕ, zero, suc, ◌+◌, ◌≤◌, ◌<◌, Bool, true, false, ◌||◌, List, [], ◌∷◌, ◌++◌, length, map, get_or, Option, Some, None, All, refl, sym, ap, ◌∙◌, arith, ℤ, pos, slice_get, option_map, true≢false, if◌then◌else◌}
+use Rattle.std.proofs.Common.{◌≡◌, ◌≢◌, ℕ, zero, suc, ◌<◌, Bool, true, false, ◌||◌, List, [], ◌∷◌, ◌++◌, length, map, get_or, Option, Some, None, All, refl, sym, ap, ◌∙◌, arith, ℤ, pos, slice_get, option_map, true≢false, if◌then◌else◌}
 use Rattle.std.specs.Prelude.{IsNone, IfSome, OnOk, Result, Ok, Err, is_some, ◌↔◌, sum_by}
 use Rattle.std.specs.List.{list_any, position}
 use Rattle.std.proofs.lemmas.List.Quantifiers.{position-Some}

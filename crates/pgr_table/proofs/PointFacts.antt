@@ -1,5 +1,5 @@
 -- Points and their values.
-use Rattle.std.proofs.Common.{◌≡◌, ℕ, ◌+◌, ◌*◌, ◌^◌, ◌≤◌, ◌<◌, Bool, true, false, ◌&&◌, List, [], ◌∷◌, ◌++◌, length, map, take, drop, Option, Some, None, All, refl, sym, ◌∙◌, arith, length-append, if◌then◌else◌}
+use Rattle.std.proofs.Common.{◌≡◌, ℕ, ◌+◌, ◌^◌, ◌≤◌, ◌<◌, Bool, true, false, ◌&&◌, List, [], ◌∷◌, ◌++◌, length, take, drop, Option, Some, None, refl, arith, length-append, if◌then◌else◌}
 use Rattle.std.specs.Prelude.{nat_lt, option_and_then, option_map, position, ◌==◌}
 use Rattle.std.specs.List.{list_all, list_any}
 use Rattle.std.specs.Ordering.{int_eq}
@@ -10,7 +10,6 @@ use Rattle.std.proofs.Math.Nat.{pow-le-pow_right}
 use Rattle.pgr_numerals.specs.Numeral.{is_digit, are_zeros, digits_up_to, id_of, positive_of}
 use Rattle.pgr_numerals.specs.Fraction.{proper, tenths_of, decimal_of, slashed_of, fraction_at_slash, fraction_around, fraction_of}
 use Rattle.pgr_numerals.specs.declared.fraction.Fraction.{Fraction}
-use Rattle.pgr_outside.specs.Lists.{IsWithoutRepeats}
 use Rattle.pgr_table.specs.declared.row.PointRow.{PointRow}
 use Rattle.pgr_table.specs.declared.field_value.FieldValue.{FieldValue}
 use Rattle.pgr_table.specs.declared.field_value.FieldValue.TheVariants.{Part}

@@ -1,5 +1,5 @@
 -- The row of a record, its sum, and the faults of a record.
-use Rattle.std.proofs.Common.{◌≡◌, ℕ, ◌+◌, ◌<◌, ◌≤◌, Bool, true, false, List, [], ◌∷◌, ◌++◌, length, Option, Some, None, refl, sym, ap, ◌∙◌, arith, eq-eqb, if◌then◌else◌, slice_get, inl, inr, zero, suc, get_or, drop, zero-add, add-one}
+use Rattle.std.proofs.Common.{◌≡◌, ℕ, ◌+◌, ◌<◌, ◌≤◌, Bool, true, false, List, [], ◌∷◌, ◌++◌, length, Option, Some, None, refl, sym, ap, ◌∙◌, arith, eq-eqb, if◌then◌else◌, slice_get, zero, suc, get_or, drop, zero-add, add-one}
 use Rattle.std.proofs.lemmas.List.{length-map}
 use Rattle.std.specs.Prelude.{IsNone, option_and_then}
 use Rattle.std.specs.List.{zip}
@@ -13,7 +13,7 @@ use Rattle.pgr_table.specs.declared.kind.Check.{Check}
 use Rattle.pgr_table.specs.declared.kind.Check.TheVariants.{Free, Distinct, Summed}
 use Rattle.pgr_table.specs.Kinds.{value_of, is_summed}
 use Rattle.pgr_table.specs.Rows.{counted, most_rows, most_elements, greatest}
-use Rattle.pgr_table.specs.Values.{number_of, numbers_in}
+use Rattle.pgr_table.specs.Values.{number_of}
 use Rattle.pgr_table.specs.declared.field_value.FieldValue.{FieldValue}
 use Rattle.pgr_table.specs.Kept.{IsValue, IsRow}
 use Rattle.pgr_table.specs.Judging.{value_at, value_in, bad_column, row_of, rules_of, is_repeat, elements_of, elements_of_row, sum_of, sum_of_row, record_fault, fault_of_record}

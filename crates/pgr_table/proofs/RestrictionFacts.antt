@@ -1,11 +1,9 @@
 -- Restrictions and their values.
-use Rattle.std.proofs.Common.{◌≡◌, ℕ, ◌+◌, ◌≤◌, ◌<◌, List, [], ◌∷◌, ◌++◌, length, map, refl, sym, ap, ◌∙◌, arith, length-append, ℤ}
-use Rattle.std.specs.Prelude.{sum_by}
+use Rattle.std.proofs.Common.{◌≡◌, ◌≤◌, ◌<◌, List, [], ◌∷◌, ◌++◌, length, map, refl, sym, ◌∙◌, arith, length-append, ℤ}
 use Rattle.std.proofs.lemmas.List.{map-append}
 use Rattle.std.proofs.lemmas.List.Sums.{sum_by-cons}
 use Rattle.pgr_numerals.specs.NumeralList.{braced_list_of}
 use Rattle.pgr_table.specs.declared.field_value.FieldValue.{FieldValue}
-use Rattle.pgr_table.specs.Values.{numbers_in}
 use Rattle.pgr_table.specs.Rows.{most_rows, most_elements}
 use Rattle.pgr_table.specs.Restrictions.{restriction_kind, restriction_of, values_of_restriction, elements_of_lists, AreRestrictions}
 use Rattle.pgr_table.specs.Kept.{IsRow}

@@ -1,5 +1,5 @@
 -- Tables of capacities: their kind, their rows, and what holds of the rows of every table that is accepted.
-use Rattle.std.specs.Prelude.{◌≡◌, ℕ, ◌+◌, ◌≤◌, List, [], ◌∷◌, length, map, sum_by, All, Result}
+use Rattle.std.specs.Prelude.{ℕ, ◌+◌, ◌≤◌, List, [], ◌∷◌, length, map, sum_by, All, Result}
 use Rattle.pgr_outside.specs.Lists.{IsWithoutRepeats}
 use Rattle.pgr_table.specs.declared.row.CapacityRow.{CapacityRow}
 use Rattle.pgr_table.specs.declared.column.Column.TheVariants as column

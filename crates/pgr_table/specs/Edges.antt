@@ -1,5 +1,5 @@
 -- Tables of edges: their kind, their rows, and what holds of the rows of every table that is accepted.
-use Rattle.std.specs.Prelude.{◌≡◌, ℕ, ◌+◌, ◌≤◌, Bool, List, [], ◌∷◌, ◌++◌, length, map, sum_by, All, ℤ, pos, Option, Some, None, IsSome, IfSome, Result, if◌then◌else◌, nat_lt, unsigned_abs}
+use Rattle.std.specs.Prelude.{◌≡◌, ℕ, ◌+◌, ◌≤◌, Bool, List, [], ◌∷◌, length, map, sum_by, All, ℤ, pos, Option, Some, None, IsSome, IfSome, Result, if◌then◌else◌, nat_lt, unsigned_abs}
 use Rattle.pgr_outside.specs.Lists.{IsWithoutRepeats}
 use Rattle.pgr_table.specs.declared.row.EdgeRow.{EdgeRow}
 use Rattle.pgr_table.specs.declared.row.Place.{Place}

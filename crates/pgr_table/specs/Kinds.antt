@@ -1,5 +1,5 @@
 -- What a column of a kind of table is: what its fields may be, whether a header has to have it, and what its values are judged for.
-use Rattle.std.specs.Prelude.{ℕ, ◌^◌, Bool, true, false, List, [], ◌∷◌, if◌then◌else◌, ◌==◌, Option, Some, None, option_map, codes, bytes_eq}
+use Rattle.std.specs.Prelude.{ℕ, ◌^◌, Bool, true, false, List, [], ◌∷◌, if◌then◌else◌, ◌==◌, Option, Some, None, option_map}
 use Rattle.pgr_numerals.specs.Numeral.{id_of, positive_of, i64_of, whole_of, whole_or_empty, whole_within}
 use Rattle.pgr_numerals.specs.NumeralList.{braced_list_of}
 use Rattle.pgr_numerals.specs.Fraction.{fraction_of}

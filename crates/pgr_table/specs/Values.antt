@@ -1,5 +1,5 @@
 -- What a field writes: a number, a fraction, a side, or a list of numbers; and each of these out of a row's values.
-use Rattle.std.specs.Prelude.{ℕ, List, [], length, slice_index_or, ℤ, pos}
+use Rattle.std.specs.Prelude.{ℕ, List, [], slice_index_or, ℤ, pos}
 use Rattle.pgr_numerals.specs.declared.fraction.Fraction.{Fraction}
 use Rattle.pgr_outside.specs.declared.side.Side.{Side}
 use Rattle.pgr_outside.specs.declared.side.Side.TheVariants as side

@@ -177,10 +177,9 @@ impl Growing for CapacityTable {
         &CAPACITIES
     }
 
-    fn empty(alloc: Global) -> CapacityTable {
-        CapacityTable {
-            rows: IndexMap::new(alloc),
-        }
+    fn with_room(alloc: Global, expected: usize) -> Result<CapacityTable, NoMemory> {
+        let rows = IndexMap::with_capacity(alloc, expected)?;
+        Ok(CapacityTable { rows })
     }
 
     fn count(&self) -> usize {

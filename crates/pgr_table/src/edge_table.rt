@@ -273,10 +273,9 @@ impl Growing for EdgeTable {
         &EDGES
     }
 
-    fn empty(alloc: Global) -> EdgeTable {
-        EdgeTable {
-            edges: IndexMap::new(alloc),
-        }
+    fn with_room(alloc: Global, expected: usize) -> Result<EdgeTable, NoMemory> {
+        let edges = IndexMap::with_capacity(alloc, expected)?;
+        Ok(EdgeTable { edges })
     }
 
     fn count(&self) -> usize {
@@ -322,10 +321,9 @@ impl Growing for PlacedEdges {
         &PLACED_EDGES
     }
 
-    fn empty(alloc: Global) -> PlacedEdges {
-        PlacedEdges {
-            table: EdgeTable::empty(alloc),
-        }
+    fn with_room(alloc: Global, expected: usize) -> Result<PlacedEdges, NoMemory> {
+        let table = EdgeTable::with_room(alloc, expected)?;
+        Ok(PlacedEdges { table })
     }
 
     fn count(&self) -> usize {

@@ -1,4 +1,4 @@
-ghost use Rattle.std.specs.Prelude.{◌≡◌, ◌+◌, ◌<◌, ◌≤◌, List, [], ◌∷◌, ◌++◌, false, length, OnOk, OnErr};
+ghost use Rattle.std.specs.Prelude.{◌≡◌, ◌+◌, ◌<◌, ◌≤◌, List, [], ◌∷◌, ◌++◌, false, length, IfOk, OnOk, OnErr};
 ghost use Rattle.pgr_table.specs.Rows.{most_rows, most_elements, greatest};
 ghost use Rattle.pgr_table.specs.Judging.{is_repeat, elements_of, sum_of};
 ghost use Rattle.pgr_table.specs.declared.field_value.FieldValue.{FieldValue as Value};
@@ -22,9 +22,9 @@ pub(crate) trait Growing: Drop {
     fn kind() -> &'static [Rule]
         ensures { result.now ≡ kind };
 
-    /// A table without rows.
-    fn empty(alloc: Global) -> Self
-        ensures { rows result ≡ [] };
+    /// A table without rows, with room for some that are expected.
+    fn with_room(alloc: Global, expected: usize) -> Result<Self, NoMemory>
+        ensures { IfOk result (λ table. rows table ≡ []) };
 
     /// The number of rows.
     fn count(&self) -> usize

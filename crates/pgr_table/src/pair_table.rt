@@ -126,10 +126,9 @@ impl Growing for PairTable {
         &PAIRS
     }
 
-    fn empty(alloc: Global) -> PairTable {
-        PairTable {
-            rows: Vec::new(alloc),
-        }
+    fn with_room(alloc: Global, expected: usize) -> Result<PairTable, NoMemory> {
+        let rows = Vec::with_capacity(alloc, expected)?;
+        Ok(PairTable { rows })
     }
 
     fn count(&self) -> usize {

@@ -170,10 +170,9 @@ impl Growing for PointTable {
         &POINTS
     }
 
-    fn empty(alloc: Global) -> PointTable {
-        PointTable {
-            rows: IndexMap::new(alloc),
-        }
+    fn with_room(alloc: Global, expected: usize) -> Result<PointTable, NoMemory> {
+        let rows = IndexMap::with_capacity(alloc, expected)?;
+        Ok(PointTable { rows })
     }
 
     fn count(&self) -> usize {

@@ -3,11 +3,14 @@ ghost use Rattle.pgr_table.specs.Judging.{judged, IsVerdictSeen};
 use crate::fault::{TableFault, TableRefused};
 use crate::growing::Growing;
 use crate::header::find_columns;
-use crate::record::add_record;
+use crate::record::{MOST_ROWS, add_record};
 use crate::records::Records;
 use crate::totals::Totals;
 use csv::ByteRecord;
 use std::alloc::Global;
+
+/// The bytes of a short row of four numbers, with its line feed.
+const LEAST_BYTES: usize = 8;
 
 /// The table of a kind that the bytes are, or why they are none.
 pub(crate) fn read_table<T: Growing>(alloc: Global, bytes: &[u8]) -> Result<T, TableRefused>
@@ -21,7 +24,7 @@ pub(crate) fn read_table<T: Growing>(alloc: Global, bytes: &[u8]) -> Result<T, T
     let columns = find_columns(alloc, T::kind(), &fields)?;
     let width = fields.len();
     let mut values = Vec::new(alloc);
-    let mut table = T::empty(alloc);
+    let mut table = T::with_room(alloc, rows_expected(bytes))?;
     let mut totals = Totals::zero();
     while records.read(&mut fields)? {
         totals = add_record(
@@ -35,4 +38,12 @@ pub(crate) fn read_table<T: Growing>(alloc: Global, bytes: &[u8]) -> Result<T, T
         )?;
     }
     Ok(table)
+}
+
+/// How many rows the bytes are likely to have: their line feeds, but no more than there is room for in the bytes and in a table.
+///
+/// It only decides how much memory is taken at once.
+fn rows_expected(bytes: &[u8]) -> usize {
+    let lines = bytes.iter().filter(|byte| **byte == b'\n').count();
+    lines.min(bytes.len() / LEAST_BYTES).min(MOST_ROWS)
 }

@@ -18,7 +18,7 @@ use pgr_outside::NoMemory;
 use std::alloc::Global;
 
 /// The greatest number of rows.
-const MOST_ROWS: usize = 4_194_304;
+pub(crate) const MOST_ROWS: usize = 4_194_304;
 
 /// The greatest number of elements of all lists.
 const MOST_ELEMENTS: usize = 1_048_576;

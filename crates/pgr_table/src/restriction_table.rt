@@ -123,10 +123,9 @@ impl Growing for RestrictionTable {
         &RESTRICTIONS
     }
 
-    fn empty(alloc: Global) -> RestrictionTable {
-        RestrictionTable {
-            rows: Vec::new(alloc),
-        }
+    fn with_room(alloc: Global, expected: usize) -> Result<RestrictionTable, NoMemory> {
+        let rows = Vec::with_capacity(alloc, expected)?;
+        Ok(RestrictionTable { rows })
     }
 
     fn count(&self) -> usize {

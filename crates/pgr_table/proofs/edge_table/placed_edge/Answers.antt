@@ -1,4 +1,4 @@
-use Rattle.std.proofs.Common.{sym, ap, ◌∙◌, arith, Some}
+use Rattle.std.proofs.Common.{sym, ap, ◌∙◌, arith}
 use Rattle.pgr_table.specs.Edges.{placed_edge_kind, edge_with}
 use Rattle.pgr_table.proofs.RecordFacts.{IsRow-length}
 use Rattle.pgr_table.proofs.EdgeFacts.{place_of-some}

@@ -1,5 +1,5 @@
-use Rattle.std.proofs.Common.{sym, ap, ◌∙◌, List, ◌++◌, ◌∷◌, [], map}
-use Rattle.std.proofs.lemmas.List.{map-append, length-map}
+use Rattle.std.proofs.Common.{sym, ap, ◌∙◌}
+use Rattle.std.proofs.lemmas.List.{length-map}
 use Rattle.pgr_table.specs.declared.row.CapacityRow.{CapacityRow}
 use Rattle.pgr_table.specs.Capacities.{capacity_kind, capacity_of, values_of_capacity}
 use Rattle.pgr_table.proofs.Keyed.{is_repeat-rows, values-push-ok}

@@ -1,5 +1,5 @@
-use Rattle.std.proofs.Common.{sym, ap, ◌∙◌, List, ◌++◌, ◌∷◌, [], map}
-use Rattle.std.proofs.lemmas.List.{map-append, length-map}
+use Rattle.std.proofs.Common.{sym, ap, ◌∙◌}
+use Rattle.std.proofs.lemmas.List.{length-map}
 use Rattle.pgr_table.specs.declared.row.PointRow.{PointRow}
 use Rattle.pgr_table.specs.Points.{point_kind, point_of, values_of_point}
 use Rattle.pgr_table.proofs.Keyed.{is_repeat-rows, values-push-ok}
