@@ -33,6 +33,13 @@ ne-int_eq x y differs = by (int_eq x y) refl where
   by true e = absurd (differs (int_eq-true x y e))
   by false e = e
 
+-- the test goes both ways
+pub int_eq-turned : (x y : ℤ) → int_eq x y ≡ int_eq y x
+int_eq-turned x y = by (same_id x y) where
+  by : (x ≡ y) ⊎ (x ≢ y) → int_eq x y ≡ int_eq y x
+  by (inl same) = eq-int_eq x y same ∙ sym (eq-int_eq y x (sym same))
+  by (inr differs) = ne-int_eq x y differs ∙ sym (ne-int_eq y x (λ same. differs (sym same)))
+
 -- a link that doesn't touch a vertex has other ends
 pub touches-false : (v : ℤ) (link : LinkOf ℤ) → touches v link ≡ false → (link.from ≢ v) × (link.to ≢ v)
 touches-false v link e = by (int_eq link.from v) (int_eq link.to v) refl refl e where

@@ -47,8 +47,7 @@ IsMade-from true n (m ∷ more) link h = by (Contains-cons_cases (link_of_made n
 IsMade-from false n (m ∷ more) link h =
     by (Contains-cons_cases (link_of_made n m) (turned (link_of_made n m) ∷ links_of_made false (suc n) more) link h) (λ rest. IsMade-from false (suc n) more link rest)
   where
-    on_by : (turned (link_of_made n m) ≡ link) ⊎ Contains (links_of_made false (suc n) more) link
-        → (Contains (links_of_made false (suc n) more) link → IsMade false (suc n) more link)
+    on_by : (turned (link_of_made n m) ≡ link) ⊎ Contains (links_of_made false (suc n) more) link → (Contains (links_of_made false (suc n) more) link → IsMade false (suc n) more link)
         → IsMade false n (m ∷ more) link
     on_by (inl second) on = here false n m more link (inr (refl, sym second))
     on_by (inr rest) on = later false n m more link (on rest)

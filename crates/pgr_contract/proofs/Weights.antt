@@ -70,8 +70,7 @@ down_counts_not link less = by (int_cmp link.from link.to) refl where
   by Greater e = ap (λ o. cond (not (is_gt o)) link.cost 0) e
 
 -- no link of a list costs more than the sum, where in the undirected graph the opposite of each stands
-pub cost_within : (directed : Bool) (links : List (LinkOf ℤ)) → (directed ≡ false → HaveOpposites links) → (link : LinkOf ℤ) → Contains links link
-    → link.cost ≤ weight directed links
+pub cost_within : (directed : Bool) (links : List (LinkOf ℤ)) → (directed ≡ false → HaveOpposites links) → (link : LinkOf ℤ) → Contains links link → link.cost ≤ weight directed links
 cost_within true links opposites link h = member_sum (counted true) links link h
 cost_within false links opposites link h = elim (counts_either link) as (λ _. link.cost ≤ weight false links) [
   | inl same ↦ omega (arith, member_sum (counted false) links link h, same)
@@ -158,14 +157,7 @@ way_sum : (links : List (LinkOf ℤ)) (a v b : ℤ) (cost : Option ℕ) → IsWa
     → cost_or_zero cost ≤ sum_by (part (counted true) a v) links + sum_by (part (counted true) v b) links
 way_sum links a v b None way = omega arith
 way_sum links a v b (Some cost) (i, (o, (into, (out, is)))) =
-    omega (
-      arith,
-      is,
-      into.cost_is,
-      out.cost_is,
-      part_sum (counted true) a v links into.link into.has into.from into.to,
-      part_sum (counted true) v b links out.link out.has out.from out.to,
-    )
+    omega (arith, is, into.cost_is, out.cost_is, part_sum (counted true) a v links into.link into.has into.from into.to, part_sum (counted true) v b links out.link out.has out.from out.to)
 
 -- in the undirected graph the links between two vertices, both ways, add up to the cost of each at least
 either_sum : (links : List (LinkOf ℤ)) (a b : ℤ) → HaveOpposites links → (link : LinkOf ℤ) → Contains links link → link.from ≡ a → link.to ≡ b

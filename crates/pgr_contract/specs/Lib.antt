@@ -4,3 +4,11 @@ pub mod Run
 pub mod Weight
 pub mod Given
 pub mod Distances
+pub mod Shown
+pub mod Ways
+pub mod Events
+pub mod Candidates
+pub mod Running
+pub mod Held
+pub mod Survivors
+pub mod Lists
