@@ -1,6 +1,6 @@
 -- No restriction is met in a list of edges exactly where no edge of it completes one.
-use Rattle.std.proofs.Common.{◌≡◌, ◌≢◌, ℤ, List, [], ◌∷◌, ◌++◌, length, drop, refl, sym, ap, ◌∙◌, subst, arith}
-use Rattle.std.specs.Prelude.{reverse, Contains}
+use Rattle.std.proofs.Common.{◌≡◌, ◌≢◌, ℤ, List, [], ◌∷◌, ◌++◌, length, drop, refl, sym, ap, ◌∙◌, subst}
+use Rattle.std.specs.Prelude.{reverse}
 use Rattle.std.proofs.lemmas.List.{append_assoc, reverse-reverse, reverse-append, append-nil}
 use Rattle.pgr_turns.specs.Restrictions.{IsMet, IsAllowed}
 use Rattle.pgr_turns.specs.Fronts.{Begins, Completes, Avoids}

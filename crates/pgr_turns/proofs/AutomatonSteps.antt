@@ -1,5 +1,5 @@
 -- The longest front after an edge, found by going from a front to shorter ones.
-use Rattle.std.proofs.Common.{◌≡◌, ◌≢◌, ◌⊎◌, inl, inr, ℕ, ℤ, pos, zero, suc, ◌+◌, ◌<◌, ◌≤◌, Bool, true, false, ◌||◌, eqb, List, [], ◌∷◌, ◌++◌, Option, Some, None, length, take, set, get_or, refl, sym, ap, ◌∙◌, subst, arith, ⊎_elim}
+use Rattle.std.proofs.Common.{◌≡◌, ◌≢◌, ◌⊎◌, inl, inr, ℕ, ℤ, zero, suc, ◌+◌, ◌<◌, ◌≤◌, Bool, true, false, ◌||◌, eqb, List, [], ◌∷◌, ◌++◌, Option, Some, None, length, take, set, get_or, refl, sym, ap, ◌∙◌, subst, arith, ⊎_elim}
 use Rattle.std.specs.Prelude.{reverse, Contains}
 use Rattle.std.specs.List.{All, list_any}
 use Rattle.std.proofs.lemmas.Bool.{cases_lt, cases_eq, eqb-true, eq-eqb}
@@ -8,7 +8,7 @@ use Rattle.std.proofs.lemmas.List.{length-reverse, length-take-le, get_or_defaul
 use Rattle.pgr_turns.specs.declared.trie.Node.{Node}
 use Rattle.pgr_turns.specs.declared.trie.Back.{Back}
 use Rattle.pgr_turns.specs.Fronts.{Begins, IsFront, Completes, IsLongest}
-use Rattle.pgr_turns.specs.Trie.{node_at, list_at, front_of, word, IsTrie, IsComplete, IsShorter, IsBack, IsMarking, AreMarks, AreLasts, AreOrdered, AreBacksUpTo, AreBacksBefore, back_at}
+use Rattle.pgr_turns.specs.Trie.{node_at, list_at, word, IsTrie, IsComplete, IsShorter, IsBack, IsMarking, AreMarks, AreLasts, AreOrdered, AreBacksUpTo, AreBacksBefore, back_at}
 use Rattle.pgr_turns.proofs.FrontLemmas.{Begins-self, Begins-trans, Begins-length, Begins-whole, Begins-first, Begins-later, Begins-more, front_before, front_whole, completes_edges}
 use Rattle.pgr_turns.proofs.TrieSteps.{word_root}
 

@@ -1,7 +1,7 @@
 -- Lists that begin with others, and the longest front after one more edge.
-use Rattle.std.proofs.Common.{◌≡◌, ◌≢◌, ◌⊎◌, inl, inr, ℕ, ℤ, zero, suc, ◌+◌, ◌<◌, ◌≤◌, List, [], ◌∷◌, ◌++◌, length, take, drop, refl, sym, ap, ◌∙◌, subst, arith}
+use Rattle.std.proofs.Common.{◌≡◌, ◌⊎◌, inl, inr, ℤ, ◌≤◌, List, [], ◌∷◌, ◌++◌, length, drop, refl, sym, ap, ◌∙◌, subst, arith}
 use Rattle.std.specs.Prelude.{reverse, Contains}
-use Rattle.std.proofs.lemmas.List.{append_assoc, reverse-reverse}
+use Rattle.std.proofs.lemmas.List.{append_assoc}
 use Rattle.pgr_turns.specs.Fronts.{Begins, IsFront, Completes, IsLongest}
 
 -- a list begins with itself

@@ -1,5 +1,5 @@
 -- Walks of states are the walks beneath that meet no restriction, and are in the same order.
-use Rattle.std.proofs.Common.{◌≡◌, ◌≢◌, ◌↔◌, ℕ, ℤ, ◌+◌, ◌<◌, ◌≤◌, cond, ltb, ◌==◌, List, [], ◌∷◌, map, length, refl, sym, ap, ◌∙◌, subst, arith, ⊎_elim, Ordering, Less, Equal, Greater}
+use Rattle.std.proofs.Common.{◌≡◌, ◌≢◌, ◌↔◌, ℕ, ℤ, ◌+◌, ◌<◌, cond, ◌==◌, List, [], ◌∷◌, map, length, refl, sym, ap, ◌∙◌, subst, arith, ⊎_elim, Ordering, Less, Equal, Greater}
 use Rattle.std.specs.Prelude.{Contains}
 use Rattle.std.specs.Ordering.{nat_cmp, int_cmp, ordering_then, ordering_reverse}
 use Rattle.std.specs.Cmp.Lexicographic.{slice_cmp}
@@ -15,7 +15,7 @@ use Rattle.pgr_walks.specs.Label.{LeadsTo}
 use Rattle.pgr_walks.specs.RouteOrder.{route_cmp, IsLeast}
 use Rattle.pgr_walks.specs.ListGraphLaws.{Contains-from_holds}
 use Rattle.pgr_turns.specs.Restrictions.{edges_of, IsAllowedWalk}
-use Rattle.pgr_turns.specs.Fronts.{IsLongest, Completes, Avoids}
+use Rattle.pgr_turns.specs.Fronts.{IsLongest, Avoids}
 use Rattle.pgr_turns.specs.Turned.{beneath, IsTurned}
 use Rattle.pgr_turns.proofs.FrontLemmas.{longest_step, longest_none, completes_front, completes_edges, Begins-more}
 use Rattle.pgr_turns.proofs.AllowedSteps.{avoids_allowed, allowed_avoids}
@@ -59,7 +59,7 @@ module _ (count : ℕ) (ins : ℕ → List (LinkOf ℕ)) (rs : List (List ℤ)) 
       longest_step rs link.edge h (front link.from) (front link.to) before (record { begins = t.begins link has; longest = t.longest link has })
 
   -- the link beneath is one of the graph
-  is_beneath : (link : LinkOf ℕ) → Has link → IsLinkOf count ins (beneath vertex link)
+  pub is_beneath : (link : LinkOf ℕ) → Has link → IsLinkOf count ins (beneath vertex link)
   is_beneath link has = (t.inside link.to (t.ends link has).1, Contains-from_holds (ins (vertex link.to)) (beneath vertex link) (t.passes link has))
 
   -- a walk of states is beneath a walk that completes no restriction

@@ -2,3 +2,9 @@ pub mod Restrictions
 pub mod Fronts
 pub mod Turned
 pub mod Trie
+pub mod Collecting
+pub mod States
+pub mod Moving
+pub mod Allowed
+pub mod MostStates
+pub mod Seen

@@ -1,5 +1,5 @@
 -- Restrictions: lists of edge ids that no walk may have one right after another.
-use Rattle.std.specs.Prelude.{◌≡◌, ◌≢◌, ℤ, List, [], ◌++◌, map, Contains}
+use Rattle.std.specs.Prelude.{◌≡◌, ◌≢◌, ℤ, List, [], ◌++◌, map, filter, length, nat_lt, Contains}
 use Rattle.pgr_walks.specs.declared.link.LinkOf.{LinkOf}
 use Rattle.pgr_walks.specs.Walk.{IsWalk}
 
@@ -10,6 +10,10 @@ edges_of walk = map (λ link. link.edge) walk
 -- the ids stand among the edge ids one right after another
 abbrev pub IsMet : List ℤ → List ℤ → Type 0
 IsMet ids edges = (before after : List ℤ) × (edges ≡ before ++ (ids ++ after))
+
+-- the restrictions that aren't empty, in order
+abbrev pub nonempty : List (List ℤ) → List (List ℤ)
+nonempty restrictions = filter (λ ids. nat_lt 0 (length ids)) restrictions
 
 -- no restriction that isn't empty is met
 abbrev pub IsAllowed : List (List ℤ) → List ℤ → Type 0

@@ -1,5 +1,5 @@
 -- A graph whose vertices are states: a vertex of the graph beneath with the longest front of a restriction that the last edges are.
-use Rattle.std.specs.Prelude.{◌≡◌, ℕ, ℤ, ◌<◌, ◌≤◌, List, [], ◌∷◌, Bool, true}
+use Rattle.std.specs.Prelude.{◌≡◌, ℕ, ℤ, ◌<◌, ◌≤◌, List, [], ◌∷◌, true}
 use Rattle.pgr_walks.specs.declared.link.LinkOf.{LinkOf}
 use Rattle.pgr_walks.specs.Graph.{IsLinkOf}
 use Rattle.pgr_walks.specs.ListGraph.{holds}

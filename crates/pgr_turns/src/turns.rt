@@ -1,9 +1,14 @@
-ghost use Rattle.std.specs.Prelude.{◌≡◌, ◌+◌, ◌^◌, ◌<◌, IfOk};
-ghost use Rattle.pgr_turns.specs.Trie.{elements};
+ghost use Rattle.std.specs.Prelude.{◌≡◌, ◌+◌, ◌^◌, ◌<◌, ◌≤◌, ◌++◌, ◌∷◌, [], IfOk, OnOk};
+ghost use Rattle.std.specs.BTreeMap.{get};
+ghost use Rattle.pgr_table.specs.Restrictions.{most_elements};
+ghost use Rattle.pgr_turns.specs.Restrictions.{nonempty};
+ghost use Rattle.pgr_turns.specs.Trie.{key_cmp, elements, IsAutomaton};
 
 use crate::automaton::backs_of_trie;
+use crate::growth::push;
 use crate::trie::{Back, Trie, trie_of};
 use pgr_outside::{Listed, NoMemory};
+use pgr_table::RestrictionTable;
 use std::alloc::Global;
 use std::marker::Model;
 
@@ -33,6 +38,16 @@ impl Model for Turns {
 }
 
 impl Turns {
+    /// The restrictions of a table that aren't empty, in the order of the table; one that stands twice is there twice.
+    ///
+    /// `NoMemory` may come at any call. Work, not proved: a few look-ups in a map for each id.
+    pub fn make(alloc: Global, restrictions: &RestrictionTable) -> Result<Turns, NoMemory>
+        ensures { IfOk result (λ turns. turns ≡ nonempty restrictions.now) }
+    {
+        let lists = lists_of(alloc, restrictions)?;
+        Turns::of_lists(alloc, lists)
+    }
+
     /// The restrictions of a list.
     ///
     /// They have fewer than 2^32 - 1 ids in all. One without an id is never met. `NoMemory` may come at any call.
@@ -46,6 +61,37 @@ impl Turns {
         let (trie, _) = made;
         Ok(Turns { trie, backs })
     }
+
+    /// The fronts, and what is kept of each.
+    pub(crate) fn parts(&self) -> (&Trie, &[Back])
+        ensures lists { result.0.now.lists.items ≡ self.now }
+        ensures automaton { IsAutomaton result.0.now.lists.items result.0.now.nodes.items (λ a e. get key_cmp result.0.now.children (a, e)) result.1.now }
+    {
+        (&self.trie, self.backs.as_slice())
+    }
+}
+
+/// The lists of a table that aren't empty.
+fn lists_of(alloc: Global, restrictions: &RestrictionTable) -> Result<Vec<Listed<i64>>, NoMemory>
+    ensures lists { IfOk result (λ lists. lists.items ≡ nonempty restrictions.now) }
+    ensures few { IfOk result (λ lists. elements lists.items ≤ most_elements) }
+{
+    let mut lists = Vec::new(alloc);
+    for i in 0..restrictions.len() {
+        append_list(alloc, restrictions.row(i), &mut lists)?;
+    }
+    Ok(lists)
+}
+
+/// Puts a list that isn't empty behind others.
+fn append_list(alloc: Global, ids: &[i64], lists: &mut Vec<Listed<i64>>) -> Result<(), NoMemory>
+    ensures { OnOk result (lists.new.items ≡ lists.old.items ++ nonempty (ids.now ∷ [])) }
+{
+    if ids.is_empty() {
+        return Ok(());
+    }
+    let copy = Vec::from_slice(alloc, ids)?;
+    push(lists, Listed::from_vec(copy))
 }
 
 #[cfg(test)]

@@ -1,5 +1,5 @@
 -- A child is the longest front, and without one it goes on at the shorter front.
-use Rattle.std.proofs.Common.{◌≡◌, ◌≢◌, ◌∙◌, ◌∷◌, ℕ, None, sym, subst, arith, to_z, of_z, w64}
+use Rattle.std.proofs.Common.{◌≡◌, ◌≢◌, ◌∙◌, ◌∷◌, sym, subst, arith, to_z, of_z, w64}
 use Rattle.std.proofs.lemmas.Int.{ints}
 use Rattle.pgr_turns.specs.Fronts.{IsLongest}
 use Rattle.std.specs.BTreeMap.{get}

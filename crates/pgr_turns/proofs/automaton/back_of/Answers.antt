@@ -1,5 +1,5 @@
 -- What is kept of a node is that of the shorter one, and its own mark.
-use Rattle.std.proofs.Common.{◌≡◌, ◌≢◌, ◌∙◌, ◌∷◌, ◌||◌, ◌<◌, ℕ, ℤ, List, Bool, true, false, length, get_or, arith, ap, subst, sym, refl, to_z, of_z, w64}
+use Rattle.std.proofs.Common.{◌≡◌, ◌≢◌, ◌∙◌, ◌∷◌, ◌||◌, ◌<◌, ℕ, ℤ, List, false, length, get_or, arith, ap, subst, sym, to_z, of_z, w64}
 use Rattle.std.proofs.lemmas.Int.{ints}
 use Rattle.std.specs.BTreeMap.{get}
 use Rattle.std.proofs.lemmas.List.{get_or_default}

@@ -1,5 +1,5 @@
 -- What is kept of one node more, and at last of all.
-use Rattle.std.proofs.Common.{◌≡◌, ◌∙◌, ◌<◌, ℕ, List, length, get_or, ap, subst, sym, arith}
+use Rattle.std.proofs.Common.{◌∙◌, ◌<◌, ℕ, List, length, get_or, ap, subst, sym, arith}
 use Rattle.std.proofs.lemmas.List.{get_or_default, length-set}
 use Rattle.pgr_turns.specs.declared.trie.Back.{Back}
 use Rattle.pgr_turns.specs.Trie.{back_at, IsBack, AreOrdered}

@@ -1,5 +1,5 @@
 -- The marks are those of the whole restrictions.
-use Rattle.std.proofs.Common.{◌≡◌, ◌∙◌, ℕ, List, Bool, length, get_or, subst, sym, ap, arith}
+use Rattle.std.proofs.Common.{◌≡◌, List, Bool, length, subst, sym, arith}
 use Rattle.std.specs.BTreeMap.{get}
 use Rattle.std.proofs.lemmas.List.{get_or_default}
 use Rattle.pgr_turns.specs.Trie.{key_cmp, IsMarking}

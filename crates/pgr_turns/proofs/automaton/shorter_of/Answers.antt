@@ -1,5 +1,5 @@
 -- The front of one id has no shorter one but the empty one; of another the shorter front is that after the last edge.
-use Rattle.std.proofs.Common.{◌≡◌, ◌≢◌, ◌∷◌, ℕ, arith, subst, to_z, of_z, w64}
+use Rattle.std.proofs.Common.{◌≡◌, ◌≢◌, ◌∷◌, arith, subst, to_z, of_z, w64}
 use Rattle.std.proofs.lemmas.Int.{ints}
 use Rattle.std.specs.BTreeMap.{get}
 use Rattle.pgr_turns.specs.Trie.{key_cmp, back_at, word, IsShorter}

@@ -1,11 +1,11 @@
 -- With the new node the nodes are fronts, each once.
-use Rattle.std.proofs.Common.{◌≡◌, ◌∙◌, ◌∷◌, [], ◌++◌, ◌+◌, ℕ, ℤ, pos, List, length, Some, None, false, sym, ap, subst, arith, to_z, of_z, w64}
+use Rattle.std.proofs.Common.{◌≡◌, ◌∙◌, ◌∷◌, [], ◌++◌, ◌+◌, ℕ, ℤ, List, length, Some, false, sym, ap, subst, arith, to_z, of_z, w64}
 use Rattle.std.specs.Ordering.{is_eq}
 use Rattle.std.specs.BTreeMap.{get}
 use Rattle.std.proofs.lemmas.Int.{ints}
 use Rattle.std.proofs.lemmas.List.{length_push}
 use Rattle.pgr_turns.specs.declared.trie.Node.{Node}
-use Rattle.pgr_turns.specs.Trie.{key_cmp, list_at, front_of, word, IsTrie, Keeps}
+use Rattle.pgr_turns.specs.Trie.{key_cmp, word, IsTrie, Keeps}
 use Rattle.pgr_turns.proofs.TrieSteps.{grown_trie, keeps_push, grown_at}
 use Rattle.pgr_turns.proofs.trie.add.Goals as goal
 

@@ -1,5 +1,5 @@
 -- The node is a child that is there, or a new one.
-use Rattle.std.proofs.Common.{◌≡◌, ◌∙◌, ◌∷◌, ℕ, ℤ, pos, sym, ap, arith, to_z, of_z, w64, Some, None}
+use Rattle.std.proofs.Common.{◌≡◌, ◌∙◌, ◌∷◌, pos, sym, ap, arith, to_z, of_z, w64, Some}
 use Rattle.std.specs.BTreeMap.{get}
 use Rattle.std.proofs.lemmas.Int.{ints}
 use Rattle.pgr_turns.specs.Trie.{key_cmp, list_at, front_of}

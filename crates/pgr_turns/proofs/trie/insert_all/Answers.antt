@@ -1,5 +1,5 @@
 -- One restriction more.
-use Rattle.std.proofs.Common.{◌≡◌, ◌<◌, ◌+◌, ℕ, List, [], length, subst, sym, arith}
+use Rattle.std.proofs.Common.{◌<◌, ◌+◌, ℕ, List, [], length, subst, sym, arith}
 use Rattle.std.proofs.lemmas.List.Sums.{sum_by_more}
 use Rattle.pgr_turns.specs.Trie.{AreLasts}
 use Rattle.pgr_turns.proofs.TrieSteps.{all_fronts_more, lasts_kept, lasts_more}

@@ -1,4 +1,4 @@
-use Rattle.std.proofs.Common.{◌≡◌, ◌+◌, ◌<◌, ◌≤◌, ℕ, length, take}
+use Rattle.std.proofs.Common.{◌+◌, ◌<◌, ◌≤◌, ℕ, length, take}
 use Rattle.std.specs.BTreeMap.{get}
 use Rattle.pgr_turns.specs.Trie.{key_cmp, elements, list_at, IsTrie, HasFronts, AreLasts}
 use Rattle.pgr_turns.proofs.trie.insert_all.Given as goal

@@ -1,6 +1,5 @@
-use Rattle.std.proofs.Common.{◌≡◌, ◌∙◌, sym, rules, arith, to_z, of_z, w64}
+use Rattle.std.proofs.Common.{◌≡◌, arith, to_z, of_z, w64}
 use Rattle.std.proofs.lemmas.Int.{ints}
-use Rattle.std.proofs.lemmas.Grind.{common_steps}
 use Rattle.pgr_turns.proofs.trie.set_child.Goals as goal
 
 pub returns-in-Ok-clause-set : goal.returns-in-Ok-clause-set

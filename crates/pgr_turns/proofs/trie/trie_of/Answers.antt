@@ -1,5 +1,5 @@
 -- The restrictions are kept beside their fronts.
-use Rattle.std.proofs.Common.{◌≡◌, ◌<◌, ℕ, ℤ, List, length, subst}
+use Rattle.std.proofs.Common.{◌<◌, ℕ, ℤ, List, length, subst}
 use Rattle.std.specs.BTreeMap.{get}
 use Rattle.pgr_turns.specs.Trie.{key_cmp, list_at, IsTrie, HasFronts}
 use Rattle.pgr_turns.proofs.trie.trie_of.Goals as goal

@@ -1,7 +1,7 @@
 -- Every front is a node.
-use Rattle.std.proofs.Common.{◌≡◌, ◌<◌, ◌≤◌, ◌+◌, ℕ, ℤ, List, length, subst, sym}
+use Rattle.std.proofs.Common.{◌<◌, ◌≤◌, ◌+◌, ℕ, ℤ, List, length, subst, sym}
 use Rattle.std.specs.BTreeMap.{get}
-use Rattle.pgr_turns.specs.Trie.{key_cmp, elements, list_at, IsComplete, HasFronts, AreLasts}
+use Rattle.pgr_turns.specs.Trie.{key_cmp, elements, list_at, HasFronts}
 use Rattle.pgr_turns.proofs.TrieSteps.{complete_from}
 use Rattle.pgr_turns.proofs.turns.Turns.of_lists.Goals as goal
 
