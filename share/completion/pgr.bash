@@ -9,6 +9,7 @@ _pgr_options() {
     pgr_drivingDistance) options='edges start distance directed equicost' ;;
     pgr_withPoints) options='edges points start end combinations directed driving_side details' ;;
     pgr_KSP) options='edges start end K combinations directed' ;;
+    pgr_contraction) options='edges order max_cycles forbidden directed' ;;
     pgr_connectedComponents|pgr_strongComponents) options='edges' ;;
     pgr_biconnectedComponents|pgr_articulationPoints|pgr_bridges) options='edges' ;;
   esac
@@ -16,7 +17,7 @@ _pgr_options() {
 }
 
 _pgr_functions='pgr_dijkstra pgr_dijkstraCost pgr_dijkstraCostMatrix pgr_drivingDistance pgr_withPoints pgr_KSP
-  pgr_connectedComponents pgr_strongComponents pgr_biconnectedComponents pgr_articulationPoints pgr_bridges'
+  pgr_contraction pgr_connectedComponents pgr_strongComponents pgr_biconnectedComponents pgr_articulationPoints pgr_bridges'
 
 _pgr() {
   local line=${COMP_LINE:0:COMP_POINT} word value name words

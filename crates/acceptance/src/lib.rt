@@ -8,6 +8,8 @@ mod case;
 #[cfg(test)]
 mod components;
 #[cfg(test)]
+mod contraction;
+#[cfg(test)]
 mod costs;
 #[cfg(test)]
 mod driving;

@@ -65,3 +65,6 @@ pub const COSTS: &str = "start_vid,end_vid,agg_cost\n";
 
 /// The header line of a table of reached vertices.
 pub const REACHES: &str = "seq,depth,start_vid,pred,node,edge,cost,agg_cost\n";
+
+/// The header line of a table of what a contraction leaves.
+pub const CONTRACTIONS: &str = "type,id,contracted_vertices,source,target,cost\n";

@@ -14,6 +14,10 @@ pub mod KspTables
 pub mod RoutesById
 pub mod KspFound
 pub mod OneKspTable
+pub mod OneRun
+pub mod OneContraction
+pub mod LightLinks
+pub mod ContractionRows
 pub mod OneTable
 pub mod LeastCosts
 pub mod FirstRefusals

@@ -30,6 +30,7 @@ use Rattle.pgr_answer.proofs.SameElements.{rising_is_one}
 use Rattle.pgr_answer.proofs.BlockTables.{one_class_table, one_point_table, one_bridge_table}
 use Rattle.pgr_answer.proofs.OneReachTable.{one_reach_table}
 use Rattle.pgr_answer.proofs.OneKspTable.{one_ksp_table}
+use Rattle.pgr_answer.proofs.OneContraction.{one_contraction}
 
 -- the order of answers is total
 answer_total : {Shown : Type 0} → IsTotalOrder (answer_cmp {Shown = Shown})
@@ -141,6 +142,7 @@ one_for function.DrivingDistance command tables = one_reach_table (IsLinkOfTable
 one_for function.WithPoints command tables =
     one_shown_table (IsPointed tables.edges tables.points command.driving_side command.directed) (IsAsked command.starts command.ends tables.combinations) command.details
 one_for function.Ksp command tables = one_ksp_table (IsLinkOfTable tables.edges command.directed) (IsAsked command.starts command.ends tables.combinations) command.k
+one_for function.Contraction command tables = one_contraction command tables
 
 -- one table at most is allowed for a command over tables
 pub one_is_allowed : (command : Command) (tables : Tables) (rows other : Rows) → IsAllowed command tables rows → IsAllowed command tables other → rows ≡ other

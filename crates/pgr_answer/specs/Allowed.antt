@@ -17,6 +17,7 @@ use Rattle.pgr_answer.specs.DijkstraCostMatrix.{IsDijkstraCostMatrix}
 use Rattle.pgr_answer.specs.DrivingDistance.{IsDrivingDistance}
 use Rattle.pgr_answer.specs.WithPoints.{IsWithPoints}
 use Rattle.pgr_answer.specs.Ksp.{IsKsp}
+use Rattle.pgr_answer.specs.Contraction.{IsContraction}
 
 -- the rows are allowed for a command of this function over these tables
 abbrev pub IsAllowedFor : Function → Command → Tables → Rows → Type 0
@@ -31,6 +32,7 @@ IsAllowedFor function.DijkstraCostMatrix command tables rows = IsDijkstraCostMat
 IsAllowedFor function.DrivingDistance command tables rows = IsDrivingDistance command tables rows
 IsAllowedFor function.WithPoints command tables rows = IsWithPoints command tables rows
 IsAllowedFor function.Ksp command tables rows = IsKsp command tables rows
+IsAllowedFor function.Contraction command tables rows = IsContraction command tables rows
 
 -- the rows are allowed for a command over these tables
 abbrev pub IsAllowed : Command → Tables → Rows → Type 0

@@ -19,6 +19,7 @@ pub mod DijkstraCostMatrix
 pub mod DrivingDistance
 pub mod WithPoints
 pub mod Ksp
+pub mod Contraction
 pub mod Allowed
 pub mod Networks
 pub mod Found

@@ -12,6 +12,7 @@ use crate::articulation_points::articulation_points_rows;
 use crate::biconnected_components::biconnected_components_rows;
 use crate::bridges::bridges_rows;
 use crate::components::{connected_components_rows, strong_components_rows};
+use crate::contraction::contraction_rows;
 use crate::dijkstra::dijkstra_rows;
 use crate::dijkstra_cost::dijkstra_cost_rows;
 use crate::dijkstra_cost_matrix::dijkstra_cost_matrix_rows;
@@ -79,5 +80,6 @@ fn allowed_rows(alloc: Global, command: &Command, tables: &Tables) -> Result<Row
         Function::DrivingDistance => driving_distance_rows(alloc, command, tables),
         Function::WithPoints => with_points_rows(alloc, command, tables),
         Function::Ksp => ksp_table_rows(alloc, command, tables),
+        Function::Contraction => contraction_rows(alloc, command, tables),
     }
 }

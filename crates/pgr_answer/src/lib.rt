@@ -17,6 +17,7 @@ mod articulation_points;
 mod biconnected_components;
 mod bridges;
 mod components;
+mod contraction;
 mod cost_rows;
 mod costs;
 mod dijkstra;

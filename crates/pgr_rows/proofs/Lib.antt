@@ -1,2 +1,4 @@
 pub mod Lines
+pub mod ListLines
+pub mod Commas
 pub mod Examples

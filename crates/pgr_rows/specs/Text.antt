@@ -1,15 +1,18 @@
 -- The kinds of result tables, and their texts.
-use Rattle.std.specs.Prelude.{ℕ, ℤ, List, [], ◌∷◌, codes, decimal}
+use Rattle.std.specs.Prelude.{ℕ, ℤ, negsuc, List, [], ◌∷◌, codes, decimal}
 use Rattle.std.specs.Fmt.{signed_decimal}
 use Rattle.pgr_rows.specs.Layout.{Layout, table_text}
+use Rattle.pgr_rows.specs.ListText.{list_text}
 use Rattle.pgr_rows.specs.declared.rows.PathRow.{PathRow}
 use Rattle.pgr_rows.specs.declared.rows.KspRow.{KspRow}
 use Rattle.pgr_rows.specs.declared.rows.CostRow.{CostRow}
 use Rattle.pgr_rows.specs.declared.rows.PartRow.{PartRow}
 use Rattle.pgr_rows.specs.declared.rows.ClassRow.{ClassRow}
 use Rattle.pgr_rows.specs.declared.rows.ReachRow.{ReachRow}
+use Rattle.pgr_rows.specs.declared.rows.ContractRow.{ContractRow}
+use Rattle.pgr_rows.specs.declared.rows.ContractRow.TheVariants.{Vertex, Shortcut}
 use Rattle.pgr_rows.specs.declared.rows.Rows.{Rows}
-use Rattle.pgr_rows.specs.declared.rows.Rows.TheVariants.{Paths, Parts, Classes, Nodes, Edges, Costs, Reaches, Ksp}
+use Rattle.pgr_rows.specs.declared.rows.Rows.TheVariants.{Paths, Parts, Classes, Nodes, Edges, Costs, Reaches, Ksp, Contractions}
 
 -- rows of paths
 abbrev pub paths : Layout PathRow
@@ -97,6 +100,29 @@ reaches = record {
       ∷ [];
 }
 
+-- the fields of a row of what a contraction leaves; a vertex has -1 where a shortcut has its ends and its cost
+abbrev pub contraction_fields : ContractRow → List (List ℕ)
+contraction_fields (Vertex id inside) =
+    codes "v"
+    ∷ signed_decimal id
+    ∷ list_text inside
+    ∷ signed_decimal (negsuc 0)
+    ∷ signed_decimal (negsuc 0)
+    ∷ signed_decimal (negsuc 0)
+    ∷ []
+contraction_fields (Shortcut id inside source target cost) =
+    codes "e"
+    ∷ signed_decimal id
+    ∷ list_text inside
+    ∷ signed_decimal source
+    ∷ signed_decimal target
+    ∷ decimal cost
+    ∷ []
+
+-- rows of what a contraction leaves
+abbrev pub contractions : Layout ContractRow
+contractions = record { header = codes "type,id,contracted_vertices,source,target,cost\n"; fields = contraction_fields }
+
 -- the text of a table
 abbrev pub text_of : Rows → List ℕ
 text_of (Paths rows) = table_text paths rows
@@ -107,3 +133,4 @@ text_of (Edges ids) = table_text edges ids
 text_of (Costs rows) = table_text costs rows
 text_of (Reaches rows) = table_text reaches rows
 text_of (Ksp rows) = table_text several_paths rows
+text_of (Contractions rows) = table_text contractions rows

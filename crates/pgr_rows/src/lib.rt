@@ -6,9 +6,10 @@
 #![tactic(auto)]
 
 mod line;
+mod list;
 mod record;
 mod rows;
 mod writing;
 
-pub use rows::{ClassRow, CostRow, KspRow, PartRow, PathRow, ReachRow, Rows};
+pub use rows::{ClassRow, ContractRow, CostRow, KspRow, PartRow, PathRow, ReachRow, Rows};
 pub use writing::write_table;

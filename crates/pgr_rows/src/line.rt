@@ -33,7 +33,7 @@ pub(crate) fn gather_line<O: Sink>(
 }
 
 /// Adds a field, and what ends it, to the bytes that are gathered for a sink.
-fn gather_field<O: Sink>(
+pub(crate) fn gather_field<O: Sink>(
     out: &mut O,
     piece: &mut Piece,
     field: Part,

@@ -1,4 +1,5 @@
 use crate::line::{Piece, gather_line};
+use crate::list::{ListLine, gather_list_line};
 use crate::record::Record;
 use pgr_outside::{Failed, Listed, Part, Sink};
 
@@ -263,6 +264,74 @@ impl Record for ReachRow {
     }
 }
 
+/// A row of a table of what a contraction leaves: a vertex or a shortcut, with the vertices that it holds.
+#[derive(Debug, Drop)]
+pub enum ContractRow {
+    /// A vertex that is left, of the type `v`; its source, target and cost are written -1.
+    Vertex {
+        /// The vertex.
+        id: i64,
+        /// The vertices that it holds, rising.
+        inside: Listed<i64>,
+    },
+    /// A shortcut that is left, of the type `e`.
+    Shortcut {
+        /// Its id: -1 for the first, -2 for the second, and so on.
+        id: i64,
+        /// The vertices that it holds, rising.
+        inside: Listed<i64>,
+        /// The vertex where it begins.
+        source: i64,
+        /// The vertex where it leads.
+        target: i64,
+        /// What it costs.
+        cost: u64,
+    },
+}
+
+impl Record for ContractRow {
+    ghost use Rattle.pgr_rows.specs.Text.{contractions};
+
+    ghost layout = { contractions };
+
+    fn header() -> &'static str {
+        "type,id,contracted_vertices,source,target,cost\n"
+    }
+
+    fn gather<O: Sink>(&self, out: &mut O, piece: &mut Piece) -> Result<(), Failed> {
+        match self {
+            ContractRow::Vertex { id, inside } => {
+                let line = ListLine {
+                    kind: "v",
+                    id: Part::Signed(*id),
+                    ids: inside.as_slice(),
+                    source: Part::Signed(-1),
+                    target: Part::Signed(-1),
+                    cost: Part::Signed(-1),
+                };
+                gather_list_line(out, piece, line)
+            }
+            ContractRow::Shortcut {
+                id,
+                inside,
+                source,
+                target,
+                cost,
+            } => {
+                let line = ListLine {
+                    kind: "e",
+                    id: Part::Signed(*id),
+                    ids: inside.as_slice(),
+                    source: Part::Signed(*source),
+                    target: Part::Signed(*target),
+                    cost: Part::Number(*cost),
+                };
+                gather_list_line(out, piece, line)
+            }
+        }
+    }
+}
+
 /// The rows of a result table, with one variant for each kind of table.
 #[derive(Debug, Drop)]
 pub enum Rows {
@@ -282,4 +351,6 @@ pub enum Rows {
     Reaches(Listed<ReachRow>),
     /// Several paths for each pair, of the columns `seq,path_id,path_seq,start_vid,end_vid,node,edge,cost,agg_cost`.
     Ksp(Listed<KspRow>),
+    /// What a contraction leaves, of the columns `type,id,contracted_vertices,source,target,cost`.
+    Contractions(Listed<ContractRow>),
 }

@@ -29,6 +29,7 @@ pub fn write_table<O: Sink>(out: &mut O, rows: &Rows) -> Result<(), Failed>
         Rows::Costs(rows) => write_records(out, rows),
         Rows::Reaches(rows) => write_records(out, rows),
         Rows::Ksp(rows) => write_records(out, rows),
+        Rows::Contractions(rows) => write_records(out, rows),
     }
 }
 
@@ -76,7 +77,7 @@ fn write_lines<O: Sink, R: Record>(out: &mut O, rows: &[R]) -> Result<(), Failed
 #[cfg(test)]
 mod tests {
     use super::*;
-    use crate::rows::{ClassRow, CostRow, KspRow, PartRow, PathRow, ReachRow};
+    use crate::rows::{ClassRow, ContractRow, CostRow, KspRow, PartRow, PathRow, ReachRow};
     use pgr_outside::MemorySink;
     use std::test::Fail;
 
@@ -209,6 +210,32 @@ mod tests {
         assert_eq!(rt;
             out.bytes(),
             b"seq,depth,start_vid,pred,node,edge,cost,agg_cost\n1,2,-3,4,5,-1,6,7\n".as_slice()
+        );
+        Ok(())
+    }
+
+    #[test]
+    fn contents_stand_in_braces_and_between_quotes_where_a_comma_is(
+        rt: HostRuntime,
+    ) -> Result<(), Fail> {
+        let mut rows = Vec::new(rt.alloc());
+        for ids in [[2i64].as_slice(), &[-3, 10, 4]] {
+            let inside = Listed::from_vec(Vec::from_slice(rt.alloc(), ids)?);
+            rows.push(ContractRow::Vertex { id: 7, inside })?;
+        }
+        let inside = Listed::from_vec(Vec::from_slice(rt.alloc(), [5i64, 6].as_slice())?);
+        rows.push(ContractRow::Shortcut {
+            id: -1,
+            inside,
+            source: 1,
+            target: 4,
+            cost: 9,
+        })?;
+        let mut out = MemorySink::with_room(rt.alloc(), 256, 7, Vec::new(rt.alloc()))?;
+        write_table(&mut out, &Rows::Contractions(Listed::from_vec(rows)))?;
+        assert_eq!(rt;
+            out.bytes(),
+            b"type,id,contracted_vertices,source,target,cost\nv,7,{2},-1,-1,-1\nv,7,\"{-3,10,4}\",-1,-1,-1\ne,-1,\"{5,6}\",1,4,9\n".as_slice()
         );
         Ok(())
     }

@@ -1,4 +1,5 @@
 mod SameOption
+mod MethodLists
 mod Settings
 mod RisingNumbers
 mod Filling

@@ -1,10 +1,13 @@
 -- The forms of values: what the text behind an option's equals sign stands for, if it is in the form, and what a reader of a form answers.
-use Rattle.std.specs.Prelude.{◌≡◌, ℕ, Bool, true, false, ◌&&◌, if◌then◌else◌, nat_lt, nat_le, List, length, codes, ℤ, Option, Some, None, option_map, Result, Ok, Err}
+use Rattle.std.specs.Prelude.{◌≡◌, ℕ, Bool, true, false, ◌&&◌, if◌then◌else◌, nat_lt, nat_le, List, length, map, codes, ℤ, Option, Some, None, option_map, Result, Ok, Err}
+use Rattle.std.specs.List.{slice_split}
 use Rattle.std.specs.Str.{bytes_eq}
 use Rattle.pgr_outside.specs.declared.side.Side.{Side}
 use Rattle.pgr_outside.specs.declared.side.Side.TheVariants.{B, R, L}
 use Rattle.pgr_numerals.specs.Numeral.{digits_up_to}
-use Rattle.pgr_numerals.specs.NumeralList.{i64_list_of}
+use Rattle.pgr_numerals.specs.NumeralList.{is_comma, all_of, i64_list_of}
+use Rattle.pgr_words.specs.declared.method.Method.{Method}
+use Rattle.pgr_words.specs.declared.method.Method.TheVariants.{DeadEnd, Linear}
 use Rattle.pgr_words.specs.declared.value.ValueRefused.{ValueRefused}
 use Rattle.pgr_words.specs.declared.value.ValueRefused.TheVariants.{Form, Memory}
 use Rattle.pgr_words.specs.Rising.{rising}
@@ -55,6 +58,18 @@ from_one (Some number) = if nat_lt 0 number then Some number else None
 -- a count: digits alone, from 1 to 1,000,000
 abbrev pub count : List ℕ → Option ℕ
 count text = from_one (digits_up_to most_count text)
+
+-- the most methods in an order
+abbrev pub most_methods : ℕ
+most_methods = 64
+
+-- a method: `1` for dead ends, `2` for linear vertices
+abbrev pub method : List ℕ → Option Method
+method text = if bytes_eq text (codes "1") then Some DeadEnd else (if bytes_eq text (codes "2") then Some Linear else None)
+
+-- an order: 1 to 64 methods joined by commas, as they stand
+abbrev pub order : List ℕ → Option (List Method)
+order text = if nat_le (length (slice_split is_comma text)) most_methods then all_of (map method (slice_split is_comma text)) else None
 
 -- the answer of a reader is what the text stands for, or that it isn't in the form, unless memory was wanting
 abbrev pub Reads : {X Y : Type 0} → (X → Y) → Option Y → Result X ValueRefused → Type 0

@@ -6,7 +6,7 @@ use Rattle.std.specs.Str.{bytes_eq}
 use Rattle.pgr_words.specs.declared.function.Function.{Function}
 use Rattle.pgr_words.specs.declared.function.Function.TheVariants as function
 use Rattle.pgr_words.specs.declared.option.OptionName.{OptionName}
-use Rattle.pgr_words.specs.declared.option.OptionName.TheVariants.{Edges, Points, Combinations, Start, End, Vids, Directed, DrivingSide, Details, Distance, Equicost, K}
+use Rattle.pgr_words.specs.declared.option.OptionName.TheVariants.{Edges, Points, Combinations, Start, End, Vids, Directed, DrivingSide, Details, Distance, Equicost, K, Order, MaxCycles, Forbidden}
 use Rattle.pgr_words.specs.Options.{name_of, is_same}
 
 -- the options of a function that asks for pairs, in the order in which needed ones are looked for
@@ -33,6 +33,10 @@ point_options = Edges ∷ Points ∷ Start ∷ End ∷ Combinations ∷ Directed
 abbrev pub ksp_options : List OptionName
 ksp_options = Edges ∷ Start ∷ End ∷ K ∷ Combinations ∷ Directed ∷ []
 
+-- the options of contraction, in the same order
+abbrev pub contraction_options : List OptionName
+contraction_options = Edges ∷ Order ∷ MaxCycles ∷ Forbidden ∷ Directed ∷ []
+
 -- each function by what it is called, with its options
 abbrev pub functions : List (List ℕ × (Function × List OptionName))
 functions =
@@ -47,6 +51,7 @@ functions =
     ∷ (codes "pgr_drivingDistance", (function.DrivingDistance, driving_options))
     ∷ (codes "pgr_withPoints", (function.WithPoints, point_options))
     ∷ (codes "pgr_KSP", (function.Ksp, ksp_options))
+    ∷ (codes "pgr_contraction", (function.Contraction, contraction_options))
     ∷ []
 
 -- the function that is called so, and its options

@@ -6,7 +6,7 @@ use Rattle.pgr_words.specs.declared.option.Need.{Need}
 use Rattle.pgr_words.specs.declared.option.Need.TheVariants.{Always, WithoutCombinations, Never}
 use Rattle.pgr_words.specs.declared.option.OptionName.{OptionName}
 use Rattle.pgr_words.specs.declared.option.OptionName.TheVariants as option
-use Rattle.pgr_words.specs.Forms.{file_name, ids, flag, side, distance, count}
+use Rattle.pgr_words.specs.Forms.{file_name, ids, flag, side, distance, count, order}
 
 -- an option: its name without the two hyphens, when it is needed, and what a text makes of a command, or none where the text isn't in the option's form
 pub record OptionRule : Type 0 where
@@ -79,6 +79,21 @@ rule_of option.K = record {
   name = codes "K";
   need = Always;
   fill = into count (λ number command. record command { k = number });
+}
+rule_of option.Order = record {
+  name = codes "order";
+  need = Always;
+  fill = into order (λ methods command. record command { order = methods });
+}
+rule_of option.MaxCycles = record {
+  name = codes "max_cycles";
+  need = Never;
+  fill = into count (λ number command. record command { max_cycles = number });
+}
+rule_of option.Forbidden = record {
+  name = codes "forbidden";
+  need = Never;
+  fill = into ids (λ list command. record command { forbidden = list });
 }
 
 -- what an option is called, without its two hyphens

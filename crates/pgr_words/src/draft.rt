@@ -12,7 +12,8 @@ use crate::fault::{WordFault, WordsRefused};
 use crate::function::Function;
 use crate::option::{Need, OptionName};
 use crate::value::{
-    ValueRefused, read_count, read_distance, read_file_name, read_flag, read_ids, read_side,
+    ValueRefused, read_count, read_distance, read_file_name, read_flag, read_ids, read_order,
+    read_side,
 };
 use std::alloc::Global;
 
@@ -122,6 +123,9 @@ fn set_option(
         OptionName::Distance => command.distance = read_distance(value)?,
         OptionName::Equicost => command.equicost = read_flag(value)?,
         OptionName::K => command.k = read_count(value)?,
+        OptionName::Order => command.order = read_order(alloc, value)?,
+        OptionName::MaxCycles => command.max_cycles = read_count(value)?,
+        OptionName::Forbidden => command.forbidden = read_ids(alloc, value)?,
     }
     Ok(())
 }

@@ -28,6 +28,8 @@ pub enum Function {
     WithPoints,
     /// `pgr_KSP`: the first K loopless routes.
     Ksp,
+    /// `pgr_contraction`: vertices taken away so that every distance stays.
+    Contraction,
 }
 
 /// The options of a function that asks for pairs, in the order in which needed ones are looked for.
@@ -76,6 +78,15 @@ const KSP_OPTIONS: [OptionName; 6] = [
     OptionName::Directed,
 ];
 
+/// The options of contraction, in the same order.
+const CONTRACTION_OPTIONS: [OptionName; 5] = [
+    OptionName::Edges,
+    OptionName::Order,
+    OptionName::MaxCycles,
+    OptionName::Forbidden,
+    OptionName::Directed,
+];
+
 impl Function {
     /// The function that is called so, with its options, if there is one.
     pub(crate) fn named(name: &str) -> Option<(Function, &'static [OptionName])>
@@ -93,6 +104,7 @@ impl Function {
             "pgr_drivingDistance" => Some((Function::DrivingDistance, &DRIVING_OPTIONS)),
             "pgr_withPoints" => Some((Function::WithPoints, &POINT_OPTIONS)),
             "pgr_KSP" => Some((Function::Ksp, &KSP_OPTIONS)),
+            "pgr_contraction" => Some((Function::Contraction, &CONTRACTION_OPTIONS)),
             _ => None,
         }
     }

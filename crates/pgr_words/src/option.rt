@@ -32,6 +32,12 @@ pub enum OptionName {
     Equicost,
     /// How many routes are given.
     K,
+    /// The methods of contraction, in order.
+    Order,
+    /// How often the methods of contraction are run.
+    MaxCycles,
+    /// The vertices that aren't contracted.
+    Forbidden,
 }
 
 /// When a function needs an option that it has.
@@ -80,6 +86,9 @@ impl OptionName {
             OptionName::Distance => ("distance", Need::Always),
             OptionName::Equicost => ("equicost", Need::Never),
             OptionName::K => ("K", Need::Always),
+            OptionName::Order => ("order", Need::Always),
+            OptionName::MaxCycles => ("max_cycles", Need::Never),
+            OptionName::Forbidden => ("forbidden", Need::Never),
         };
         OptionRule { name, need }
     }

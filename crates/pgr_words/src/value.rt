@@ -1,7 +1,8 @@
-ghost use Rattle.std.specs.Prelude.{◌≡◌};
-ghost use Rattle.pgr_words.specs.Forms.{Reads, file_name, ids, flag, side, distance, count};
+ghost use Rattle.std.specs.Prelude.{◌≡◌, IfOk, option_map};
+ghost use Rattle.pgr_words.specs.Forms.{Reads, file_name, ids, flag, side, distance, count, method, order};
 ghost use Rattle.pgr_words.specs.Rising.{rising};
 
+use crate::method::Method;
 use pgr_numerals::{read_digits, read_i64_list};
 use pgr_outside::{Listed, Side, Text};
 use std::alloc::{AllocError, Global};
@@ -17,6 +18,9 @@ const MOST_DISTANCE: u64 = 9_223_372_036_854_775_807;
 
 /// The greatest count.
 const MOST_COUNT: u64 = 1_000_000;
+
+/// The most methods in an order.
+const MOST_METHODS: usize = 64;
 
 /// Why a value wasn't read.
 #[derive(Clone, Copy, Debug, PartialEq, Eq, Drop)]
@@ -97,6 +101,44 @@ pub(crate) fn read_count(value: &str) -> Result<u32, ValueRefused>
     match read_digits(value.as_bytes(), MOST_COUNT) {
         Some(number) if number > 0 => Ok(number as u32),
         _ => Err(ValueRefused::Form),
+    }
+}
+
+/// An order: 1 to 64 methods joined by commas. They come as they stand, repeats too.
+pub(crate) fn read_order(alloc: Global, value: &str) -> Result<Listed<Method>, ValueRefused>
+    ensures { Reads (λ methods. methods) (order value.now) result }
+{
+    match read_methods(alloc, value.as_bytes())? {
+        Some(methods) => Ok(Listed::from_vec(methods)),
+        None => Err(ValueRefused::Form),
+    }
+}
+
+/// The methods of an order, or none where the bytes aren't one.
+fn read_methods(alloc: Global, bytes: &[u8]) -> Result<Option<Vec<Method>>, AllocError>
+    ensures { IfOk result (λ list. option_map (λ methods. methods.items) list ≡ order bytes.now) }
+{
+    let mut methods = Vec::new(alloc);
+    for part in bytes.split(|byte| *byte == b',') {
+        if methods.len() == MOST_METHODS {
+            return Ok(None);
+        }
+        let Some(method) = method_of(part) else {
+            return Ok(None);
+        };
+        methods.push(method)?;
+    }
+    Ok(Some(methods))
+}
+
+/// A method: `1` for dead ends, `2` for linear vertices.
+fn method_of(text: &[u8]) -> Option<Method>
+    ensures { result ≡ method text.now }
+{
+    match text {
+        b"1" => Some(Method::DeadEnd),
+        b"2" => Some(Method::Linear),
+        _ => None,
     }
 }
 

@@ -50,6 +50,7 @@ fn read_options(
 #[cfg(test)]
 mod tests {
     use super::*;
+    use crate::method::Method;
     use std::alloc::AllocError;
     use std::test::Fail;
 
@@ -157,6 +158,43 @@ mod tests {
         for count in ["--K=", "--K=0", "--K=+1", "--K=1000001"] {
             assert_eq!(rt; fault(alloc, &[name, count])?, Some(bad));
         }
+        Ok(())
+    }
+
+    #[test]
+    fn an_order_of_methods_is_kept_as_it_stands(rt: HostRuntime) -> Result<(), Fail> {
+        let alloc = rt.alloc();
+        let name = "pgr_contraction";
+        let words = words(
+            alloc,
+            &[
+                name,
+                "--forbidden=7,-1,7",
+                "--max_cycles=0001000000",
+                "--order=2,1,1",
+                "--edges=a.csv",
+            ],
+        )?;
+        let command = read_words(alloc, words.as_slice())?;
+        assert_eq!(rt; command.function, Function::Contraction);
+        let order = [Method::Linear, Method::DeadEnd, Method::DeadEnd];
+        assert_eq!(rt; command.order.as_slice(), order.as_slice());
+        assert_eq!(rt; command.max_cycles, 1_000_000);
+        assert_eq!(rt; command.forbidden.as_slice(), [-1, 7].as_slice());
+        let no_order = WordFault::MissingOption(OptionName::Order);
+        assert_eq!(rt; fault(alloc, &[name, "--edges=a"])?, Some(no_order));
+        let bad = WordFault::BadValue(OptionName::Order);
+        for order in ["--order=", "--order=01", "--order=1,", "--order=3"] {
+            assert_eq!(rt; fault(alloc, &[name, order])?, Some(bad));
+        }
+        let mut many = String::from_str(alloc, "--order=1")?;
+        for _ in 0..64 {
+            many.push_str(",2")?;
+        }
+        assert_eq!(rt;
+            fault(alloc, &["pgr_contraction", many.as_str()])?,
+            Some(bad)
+        );
         Ok(())
     }
 
