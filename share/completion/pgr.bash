@@ -10,6 +10,8 @@ _pgr_options() {
     pgr_withPoints) options='edges points start end combinations directed driving_side details' ;;
     pgr_KSP) options='edges start end K combinations directed' ;;
     pgr_contraction) options='edges order max_cycles forbidden directed' ;;
+    pgr_maxFlow|pgr_edmondsKarp) options='edges start end' ;;
+    minCut) options='edges start end' ;;
     pgr_connectedComponents|pgr_strongComponents) options='edges' ;;
     pgr_biconnectedComponents|pgr_articulationPoints|pgr_bridges) options='edges' ;;
   esac
@@ -17,7 +19,8 @@ _pgr_options() {
 }
 
 _pgr_functions='pgr_dijkstra pgr_dijkstraCost pgr_dijkstraCostMatrix pgr_drivingDistance pgr_withPoints pgr_KSP
-  pgr_contraction pgr_connectedComponents pgr_strongComponents pgr_biconnectedComponents pgr_articulationPoints pgr_bridges'
+  pgr_contraction pgr_connectedComponents pgr_strongComponents pgr_biconnectedComponents pgr_articulationPoints pgr_bridges
+  pgr_maxFlow pgr_edmondsKarp minCut'
 
 _pgr() {
   local line=${COMP_LINE:0:COMP_POINT} word value name words

@@ -16,6 +16,8 @@ mod driving;
 #[cfg(test)]
 mod failures;
 #[cfg(test)]
+mod flows;
+#[cfg(test)]
 mod paths;
 #[cfg(test)]
 mod points;

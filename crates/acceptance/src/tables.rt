@@ -27,6 +27,14 @@ pub const C: &[u8] = b"id,source,target,cost,reverse_cost\n\
 pub const D: &[u8] = b"id,source,target,cost,reverse_cost\n\
     1,1,2,1,3\n";
 
+/// Capacities: a flow of 2 goes over four edges, and one that went over the edge across first has to be taken back.
+pub const H: &[u8] = b"id,source,target,capacity\n\
+    1,1,2,1\n\
+    2,1,3,1\n\
+    3,2,3,1\n\
+    4,2,4,1\n\
+    5,3,4,1\n";
+
 /// Table A as another tool writes it: columns in another order and one more, a quoted comma, CR LF, costs with a full
 /// stop, and an empty field where there is no reverse cost.
 pub const A_EXPORTED: &[u8] = b"name,target,source,id,reverse_cost,cost\r\n\
@@ -47,6 +55,15 @@ pub const PATHS: &str = "seq,path_seq,start_vid,end_vid,node,edge,cost,agg_cost\
 
 /// The header line of a table of several paths for each pair.
 pub const SEVERAL: &str = "seq,path_id,path_seq,start_vid,end_vid,node,edge,cost,agg_cost\n";
+
+/// The header line of a value.
+pub const VALUE: &str = "max_flow\n";
+
+/// The header line of a table of flows.
+pub const FLOWS: &str = "seq,edge,start_vid,end_vid,flow,residual_capacity\n";
+
+/// The header line of a table of a cut.
+pub const CUTS: &str = "seq,edge,start_vid,end_vid,capacity\n";
 
 /// The header line of a table of components.
 pub const PARTS: &str = "seq,component,node\n";

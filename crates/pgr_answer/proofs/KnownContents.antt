@@ -1,8 +1,9 @@
 -- Where the contents of all files are known, they are one list: so the rows that answer a command are one table.
-use Rattle.std.proofs.Common.{◌≡◌, ℕ, List, [], ◌∷◌, sym, ap, subst, ◌∙◌, refl, Option, Some, None, map}
+use Rattle.std.proofs.Common.{◌≡◌, ◌≢◌, ℕ, List, [], ◌∷◌, sym, ap, subst, ◌∙◌, refl, Option, Some, None, map}
 use Rattle.std.specs.Prelude.{All, IfSome, IsSome}
 use Rattle.std.proofs.lemmas.List.Elements.{All-head, All-tail}
 use Rattle.pgr_words.specs.declared.command.Command.{Command}
+use Rattle.pgr_words.specs.declared.function.Function.TheVariants as function
 use Rattle.pgr_rows.specs.declared.rows.Rows.{Rows}
 use Rattle.pgr_answer.specs.Files.{File, Content, files_of, IsPossible, AreAccepted}
 use Rattle.pgr_answer.specs.Contents.{tables_of}
@@ -46,8 +47,9 @@ module _ (known : List ℕ → Option (List ℕ)) where
       (subst (All (λ file. IsSome (known file.name))) (sym are.of_files) all) are.possible also.possible
 
 -- the rows that answer a command over known contents are one table
-pub one_answers : (command : Command) (known : List ℕ → Option (List ℕ)) (rows other : Rows) → All (λ file. IsSome (known file.name)) (files_of command)
-    → AnswersCommand command known rows → AnswersCommand command known other → rows ≡ other
-one_answers command known rows other all answers also =
+pub one_answers : (command : Command) (known : List ℕ → Option (List ℕ)) (rows other : Rows) → command.function ≢ function.EdmondsKarp
+    → All (λ file. IsSome (known file.name)) (files_of command) → AnswersCommand command known rows → AnswersCommand command known other → rows ≡ other
+one_answers command known rows other is_other all answers also =
     let same = one_are_contents known (files_of command) answers.contents also.contents all answers.accepted also.accepted in
-    one_is_allowed command (tables_of answers.contents) rows other answers.allowed (subst (λ contents. IsAllowed command (tables_of contents) other) (sym same) also.allowed)
+    one_is_allowed command (tables_of answers.contents) rows other is_other answers.allowed
+    (subst (λ contents. IsAllowed command (tables_of contents) other) (sym same) also.allowed)

@@ -18,6 +18,7 @@ pub mod OneRun
 pub mod OneContraction
 pub mod LightLinks
 pub mod ContractionRows
+pub mod OneFlowTables
 pub mod OneTable
 pub mod LeastCosts
 pub mod FirstRefusals
@@ -29,4 +30,8 @@ pub mod WithinAlong
 pub mod OneReachTable
 pub mod ReachTables
 pub mod ReachesFound
+pub mod FlowsById
+pub mod FlowTables
+pub mod FlowRows
+pub mod RisingNumbers
 pub mod Examples

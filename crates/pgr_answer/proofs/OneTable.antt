@@ -31,6 +31,7 @@ use Rattle.pgr_answer.proofs.BlockTables.{one_class_table, one_point_table, one_
 use Rattle.pgr_answer.proofs.OneReachTable.{one_reach_table}
 use Rattle.pgr_answer.proofs.OneKspTable.{one_ksp_table}
 use Rattle.pgr_answer.proofs.OneContraction.{one_contraction}
+use Rattle.pgr_answer.proofs.OneFlowTables.{one_value_table, one_cut_table}
 
 -- the order of answers is total
 answer_total : {Shown : Type 0} → IsTotalOrder (answer_cmp {Shown = Shown})
@@ -128,8 +129,14 @@ module _ (Has : LinkOf ℤ → Type 0) (InClass : ℤ → ℤ → Type 0) where
       let same = rising_is_one member_cmp total members others are.rise also.rise (member_stands members others are also) (member_stands others members also are) in
       rows_are ∙ ap (λ ms. Parts (part_rows 1 ms)) same ∙ sym other_are
 
--- one table for each function
-one_for : (f : Function) (command : Command) (tables : Tables) (rows other : Rows) → IsAllowedFor f command tables rows → IsAllowedFor f command tables other → rows ≡ other
+-- a statement for each function but the one that may answer with any of several tables
+abbrev ForOthers : Function → Type 0 → Type 0
+ForOthers function.EdmondsKarp P = Unit {0}
+ForOthers f P = P
+
+-- one table for each of them
+one_for : (f : Function) (command : Command) (tables : Tables) (rows other : Rows) → IsAllowedFor f command tables rows → IsAllowedFor f command tables other
+    → ForOthers f (rows ≡ other)
 one_for function.ConnectedComponents command tables = one_part_table (IsLinkOfTable tables.edges false) (Connected (IsLinkOfTable tables.edges false))
 one_for function.StrongComponents command tables = one_part_table (IsLinkOfTable tables.edges true) (StronglyConnected (IsLinkOfTable tables.edges true))
 one_for function.BiconnectedComponents command tables = one_class_table tables
@@ -143,7 +150,17 @@ one_for function.WithPoints command tables =
     one_shown_table (IsPointed tables.edges tables.points command.driving_side command.directed) (IsAsked command.starts command.ends tables.combinations) command.details
 one_for function.Ksp command tables = one_ksp_table (IsLinkOfTable tables.edges command.directed) (IsAsked command.starts command.ends tables.combinations) command.k
 one_for function.Contraction command tables = one_contraction command tables
+one_for function.MaxFlow command tables = one_value_table command tables
+one_for function.EdmondsKarp command tables = λ rows other are also. tt
+one_for function.MinCut command tables = one_cut_table command tables
 
--- one table at most is allowed for a command over tables
-pub one_is_allowed : (command : Command) (tables : Tables) (rows other : Rows) → IsAllowed command tables rows → IsAllowed command tables other → rows ≡ other
-one_is_allowed command = one_for command.function command
+-- what holds for the others holds for a function that is one of them
+for_others : (f : Function) (P : Type 0) → f ≢ function.EdmondsKarp → ForOthers f P → P
+for_others function.EdmondsKarp P is_other holds = absurd (is_other refl)
+for_others f P is_other holds = holds
+
+-- one table at most is allowed for a command over tables, but where any greatest flow may be shown
+pub one_is_allowed : (command : Command) (tables : Tables) (rows other : Rows) → command.function ≢ function.EdmondsKarp
+    → IsAllowed command tables rows → IsAllowed command tables other → rows ≡ other
+one_is_allowed command tables rows other is_other are also =
+    for_others command.function (rows ≡ other) is_other (one_for command.function command tables rows other are also)

@@ -18,6 +18,9 @@ use Rattle.pgr_answer.specs.DrivingDistance.{IsDrivingDistance}
 use Rattle.pgr_answer.specs.WithPoints.{IsWithPoints}
 use Rattle.pgr_answer.specs.Ksp.{IsKsp}
 use Rattle.pgr_answer.specs.Contraction.{IsContraction}
+use Rattle.pgr_answer.specs.MaxFlow.{IsMaxFlow}
+use Rattle.pgr_answer.specs.EdmondsKarp.{IsEdmondsKarp}
+use Rattle.pgr_answer.specs.MinCut.{IsMinCut}
 
 -- the rows are allowed for a command of this function over these tables
 abbrev pub IsAllowedFor : Function → Command → Tables → Rows → Type 0
@@ -33,6 +36,9 @@ IsAllowedFor function.DrivingDistance command tables rows = IsDrivingDistance co
 IsAllowedFor function.WithPoints command tables rows = IsWithPoints command tables rows
 IsAllowedFor function.Ksp command tables rows = IsKsp command tables rows
 IsAllowedFor function.Contraction command tables rows = IsContraction command tables rows
+IsAllowedFor function.MaxFlow command tables rows = IsMaxFlow command tables rows
+IsAllowedFor function.EdmondsKarp command tables rows = IsEdmondsKarp command tables rows
+IsAllowedFor function.MinCut command tables rows = IsMinCut command tables rows
 
 -- the rows are allowed for a command over these tables
 abbrev pub IsAllowed : Command → Tables → Rows → Type 0

@@ -20,6 +20,10 @@ pub mod DrivingDistance
 pub mod WithPoints
 pub mod Ksp
 pub mod Contraction
+pub mod Flows
+pub mod MaxFlow
+pub mod EdmondsKarp
+pub mod MinCut
 pub mod Allowed
 pub mod Networks
 pub mod Found
@@ -27,3 +31,4 @@ pub mod Reading
 pub mod Gathering
 pub mod Finding
 pub mod Rooted
+pub mod FlowNetworks

@@ -2,6 +2,7 @@
 use Rattle.std.specs.Prelude.{ℕ, List, [], ◌∷◌, Option, Some, codes}
 use Rattle.pgr_words.specs.declared.command.Command.{Command}
 use Rattle.pgr_words.specs.declared.function.Function.{Function}
+use Rattle.pgr_words.specs.declared.function.Function.TheVariants as function
 use Rattle.pgr_answer.specs.declared.role.Kind.{Kind}
 use Rattle.pgr_answer.specs.declared.role.Kind.TheVariants as kind
 use Rattle.pgr_answer.specs.declared.role.Role.{Role}
@@ -23,8 +24,15 @@ file_name_of command Edges = Some command.edges
 file_name_of command Points = command.points
 file_name_of command Combinations = command.combinations
 
+-- what the file of edges is read as by a function
+abbrev pub kind_of_edges : Function → Kind
+kind_of_edges function.MaxFlow = kind.Capacities
+kind_of_edges function.EdmondsKarp = kind.Capacities
+kind_of_edges function.MinCut = kind.Capacities
+kind_of_edges f = kind.Edges
+
 -- what the file of this role is read as by a function
 abbrev pub kind_of : Function → Role → Kind
-kind_of function Edges = kind.Edges
-kind_of function Points = kind.Points
-kind_of function Combinations = kind.Combinations
+kind_of f Edges = kind_of_edges f
+kind_of f Points = kind.Points
+kind_of f Combinations = kind.Combinations

@@ -17,7 +17,10 @@ use crate::dijkstra::dijkstra_rows;
 use crate::dijkstra_cost::dijkstra_cost_rows;
 use crate::dijkstra_cost_matrix::dijkstra_cost_matrix_rows;
 use crate::driving_distance::driving_distance_rows;
+use crate::edmonds_karp::edmonds_karp_rows;
 use crate::ksp::ksp_table_rows;
+use crate::max_flow::max_flow_rows;
+use crate::min_cut::min_cut_rows;
 use crate::reading::read_tables;
 use crate::refused::Refused;
 use crate::tables::Tables;
@@ -81,5 +84,8 @@ fn allowed_rows(alloc: Global, command: &Command, tables: &Tables) -> Result<Row
         Function::WithPoints => with_points_rows(alloc, command, tables),
         Function::Ksp => ksp_table_rows(alloc, command, tables),
         Function::Contraction => contraction_rows(alloc, command, tables),
+        Function::MaxFlow => max_flow_rows(alloc, command, tables),
+        Function::EdmondsKarp => edmonds_karp_rows(alloc, command, tables),
+        Function::MinCut => min_cut_rows(alloc, command, tables),
     }
 }

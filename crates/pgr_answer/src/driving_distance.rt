@@ -48,7 +48,7 @@ pub(crate) fn driving_distance_rows(
 }
 
 /// The numbers of the starts that are names, each once and rising.
-fn roots_of(alloc: Global, names: &Names, starts: &[i64]) -> Result<Vec<u32>, NoMemory>
+pub(crate) fn roots_of(alloc: Global, names: &Names, starts: &[i64]) -> Result<Vec<u32>, NoMemory>
     ensures exactly { IfOk result (λ roots. AreNumbersOf names.now starts.now roots.items) }
     ensures rise { IfOk result (λ roots. IsStrictlyRising nat_cmp roots.items) }
 {

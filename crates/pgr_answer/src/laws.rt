@@ -1,7 +1,8 @@
-ghost use Rattle.std.specs.Prelude.{◌≡◌, ℕ, ℤ, List, All, Option, Contains, IsSome};
+ghost use Rattle.std.specs.Prelude.{◌≡◌, ◌≢◌, ℕ, ℤ, List, All, Option, Contains, IsSome};
 ghost use Rattle.pgr_walks.specs.declared.link.LinkOf.{LinkOf};
 ghost use Rattle.pgr_walks.specs.Walk.{cost_of};
 ghost use Rattle.pgr_words.specs.declared.command.Command.{Command};
+ghost use Rattle.pgr_words.specs.declared.function.Function.TheVariants.{EdmondsKarp};
 ghost use Rattle.pgr_rows.specs.declared.rows.Rows.{Rows};
 ghost use Rattle.pgr_answer.specs.declared.tables.Tables.{Tables as SomeTables};
 ghost use Rattle.pgr_answer.specs.Allowed.{IsAllowed, AnswersCommand};
@@ -12,9 +13,11 @@ ghost use Rattle.pgr_answer.specs.Paths.{IsLeastBetween};
 /// One table at most is allowed for a command over the tables that it asks about; and where the contents of all its files
 /// are known, they are one list of contents at most, and one table at most answers the command.
 ///
-/// So what is written is a function of the words and the files. A law; the call does nothing.
+/// `pgr_edmondsKarp` alone may answer with several, one for each greatest flow. So for each other function what is written
+/// is a function of the words and the files. A law; the call does nothing.
 pub fn one_table_is_allowed()
     ensures rows { (command : Command) (tables : SomeTables) (rows other : Rows)
+        → command.function ≢ EdmondsKarp
         → IsAllowed command tables rows
         → IsAllowed command tables other
         → rows ≡ other }
@@ -24,6 +27,7 @@ pub fn one_table_is_allowed()
         → AreAccepted known files others
         → contents ≡ others }
     ensures answers { (command : Command) (known : List ℕ → Option (List ℕ)) (rows other : Rows)
+        → command.function ≢ EdmondsKarp
         → All (λ file. IsSome (known file.name)) (files_of command)
         → AnswersCommand command known rows
         → AnswersCommand command known other

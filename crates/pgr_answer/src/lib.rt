@@ -8,7 +8,7 @@
 //! behind files whose contents are accepted (`refused`). Where a known content is refused, that is the answer, unless
 //! memory ran out or a read failed (`first`), and where all are known and accepted there are rows, with the same two
 //! exceptions (`completes`). Laws: one table at most is allowed, and one at most answers a command where all contents are
-//! known; the least walk has the least cost. Not proved: time, and that memory suffices.
+//! known, but for the function that shows any greatest flow; the least walk has the least cost. Not proved: time, and that memory suffices.
 #![tactic(auto)]
 
 mod answered;
@@ -24,11 +24,15 @@ mod dijkstra;
 mod dijkstra_cost;
 mod dijkstra_cost_matrix;
 mod driving_distance;
+mod edmonds_karp;
+mod flow_network;
 mod found;
 mod kept;
 mod ksp;
 mod ksp_rows;
 mod laws;
+mod max_flow;
+mod min_cut;
 mod network;
 mod pair;
 mod pairs;

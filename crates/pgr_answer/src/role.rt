@@ -1,5 +1,5 @@
 ghost use Rattle.std.specs.Prelude.{◌≡◌, option_map};
-ghost use Rattle.pgr_answer.specs.Roles.{roles as the_roles, name_of, file_name_of, kind_of};
+ghost use Rattle.pgr_answer.specs.Roles.{roles as the_roles, name_of, file_name_of, kind_of, kind_of_edges};
 
 use pgr_words::{Command, Function};
 use std::fmt;
@@ -69,17 +69,31 @@ pub(crate) enum Kind {
     Points,
     /// A table of asked pairs.
     Combinations,
+    /// A table of edges with capacities.
+    Capacities,
 }
 
 impl Kind {
     /// What the file of this role is read as by a function.
-    pub(crate) fn of(_function: Function, role: Role) -> Kind
-        ensures { result ≡ kind_of _function role }
+    pub(crate) fn of(function: Function, role: Role) -> Kind
+        ensures { result ≡ kind_of function role }
     {
         match role {
-            Role::Edges => Kind::Edges,
+            Role::Edges => Kind::of_edges(function),
             Role::Points => Kind::Points,
             Role::Combinations => Kind::Combinations,
+        }
+    }
+
+    /// What the file of edges is read as by a function.
+    fn of_edges(function: Function) -> Kind
+        ensures { result ≡ kind_of_edges function }
+    {
+        match function {
+            Function::MaxFlow => Kind::Capacities,
+            Function::EdmondsKarp => Kind::Capacities,
+            Function::MinCut => Kind::Capacities,
+            _ => Kind::Edges,
         }
     }
 }

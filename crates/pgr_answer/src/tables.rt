@@ -4,7 +4,8 @@ ghost use Rattle.pgr_answer.specs.Reading.{IsTableRead};
 
 use crate::role::Kind;
 use pgr_table::{
-    EdgeTable, PairTable, PointTable, TableRefused, read_combinations, read_edges, read_points,
+    CapacityTable, EdgeTable, PairTable, PointTable, TableRefused, read_capacities,
+    read_combinations, read_edges, read_points,
 };
 use std::alloc::Global;
 
@@ -17,6 +18,8 @@ pub(crate) struct Tables {
     pub points: PointTable,
     /// The asked pairs.
     pub combinations: PairTable,
+    /// The edges with capacities.
+    pub capacities: CapacityTable,
 }
 
 impl Tables {
@@ -28,6 +31,7 @@ impl Tables {
             edges: EdgeTable::empty(alloc),
             points: PointTable::empty(alloc),
             combinations: PairTable::empty(alloc),
+            capacities: CapacityTable::empty(alloc),
         }
     }
 
@@ -46,6 +50,7 @@ impl Tables {
             Kind::Edges => self.edges = read_edges(alloc, bytes, false)?,
             Kind::Points => self.points = read_points(alloc, bytes)?,
             Kind::Combinations => self.combinations = read_combinations(alloc, bytes)?,
+            Kind::Capacities => self.capacities = read_capacities(alloc, bytes)?,
         }
         Ok(())
     }

@@ -11,8 +11,10 @@ use Rattle.pgr_rows.specs.declared.rows.ClassRow.{ClassRow}
 use Rattle.pgr_rows.specs.declared.rows.ReachRow.{ReachRow}
 use Rattle.pgr_rows.specs.declared.rows.ContractRow.{ContractRow}
 use Rattle.pgr_rows.specs.declared.rows.ContractRow.TheVariants.{Vertex, Shortcut}
+use Rattle.pgr_rows.specs.declared.rows.FlowRow.{FlowRow}
+use Rattle.pgr_rows.specs.declared.rows.CutRow.{CutRow}
 use Rattle.pgr_rows.specs.declared.rows.Rows.{Rows}
-use Rattle.pgr_rows.specs.declared.rows.Rows.TheVariants.{Paths, Parts, Classes, Nodes, Edges, Costs, Reaches, Ksp, Contractions}
+use Rattle.pgr_rows.specs.declared.rows.Rows.TheVariants.{Paths, Parts, Classes, Nodes, Edges, Costs, Reaches, Ksp, Contractions, Value, Flows, Cuts}
 
 -- rows of paths
 abbrev pub paths : Layout PathRow
@@ -123,6 +125,31 @@ contraction_fields (Shortcut id inside source target cost) =
 abbrev pub contractions : Layout ContractRow
 contractions = record { header = codes "type,id,contracted_vertices,source,target,cost\n"; fields = contraction_fields }
 
+-- values of flows alone
+abbrev pub values : Layout ℕ
+values = record { header = codes "max_flow\n"; fields = λ value. decimal value ∷ [] }
+
+-- rows of flows
+abbrev pub flows : Layout FlowRow
+flows = record {
+  header = codes "seq,edge,start_vid,end_vid,flow,residual_capacity\n";
+  fields = λ row.
+      decimal row.seq
+      ∷ signed_decimal row.edge
+      ∷ signed_decimal row.start_vid
+      ∷ signed_decimal row.end_vid
+      ∷ decimal row.flow
+      ∷ decimal row.residual_capacity
+      ∷ [];
+}
+
+-- rows of cuts
+abbrev pub cuts : Layout CutRow
+cuts = record {
+  header = codes "seq,edge,start_vid,end_vid,capacity\n";
+  fields = λ row. decimal row.seq ∷ signed_decimal row.edge ∷ signed_decimal row.start_vid ∷ signed_decimal row.end_vid ∷ decimal row.capacity ∷ [];
+}
+
 -- the text of a table
 abbrev pub text_of : Rows → List ℕ
 text_of (Paths rows) = table_text paths rows
@@ -134,3 +161,6 @@ text_of (Costs rows) = table_text costs rows
 text_of (Reaches rows) = table_text reaches rows
 text_of (Ksp rows) = table_text several_paths rows
 text_of (Contractions rows) = table_text contractions rows
+text_of (Value value) = table_text values (value ∷ [])
+text_of (Flows rows) = table_text flows rows
+text_of (Cuts rows) = table_text cuts rows

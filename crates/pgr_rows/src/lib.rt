@@ -11,5 +11,7 @@ mod record;
 mod rows;
 mod writing;
 
-pub use rows::{ClassRow, ContractRow, CostRow, KspRow, PartRow, PathRow, ReachRow, Rows};
+pub use rows::{
+    ClassRow, ContractRow, CostRow, CutRow, FlowRow, KspRow, PartRow, PathRow, ReachRow, Rows,
+};
 pub use writing::write_table;

@@ -103,12 +103,7 @@ fn gather_closed<O: Sink>(out: &mut O, piece: &mut Piece, ids: &[i64]) -> Result
 }
 
 /// Adds a vertex, and what ends it, to the bytes that are gathered for a sink.
-fn gather_vertex<O: Sink>(
-    out: &mut O,
-    piece: &mut Piece,
-    id: &i64,
-    end: &str,
-) -> Result<(), Failed>
+fn gather_vertex<O: Sink>(out: &mut O, piece: &mut Piece, id: &i64, end: &str) -> Result<(), Failed>
     ensures all { OnOk result (HasGained (O.written out.old) (O.written out.new) (piece.old.bytes ++ (signed_decimal id.now ++ end.now)) piece.new.bytes) }
     ensures failed { OnErr result (HasRisen (O.faults out.old) (O.faults out.new)) }
     ensures front { OnErr result (AddsPrefix (O.written out.old) (O.written out.new) (piece.old.bytes ++ (signed_decimal id.now ++ end.now))) }

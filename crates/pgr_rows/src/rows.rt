@@ -332,6 +332,102 @@ impl Record for ContractRow {
     }
 }
 
+/// The value of a flow alone.
+impl Record for u64 {
+    ghost use Rattle.pgr_rows.specs.Text.{values};
+
+    ghost layout = { values };
+
+    fn header() -> &'static str {
+        "max_flow\n"
+    }
+
+    fn gather<O: Sink>(&self, out: &mut O, piece: &mut Piece) -> Result<(), Failed> {
+        gather_line(out, piece, &[Part::Number(*self)])
+    }
+}
+
+/// A row of a table of flows: one link that carries flow.
+#[derive(Clone, Copy, Debug, PartialEq, Eq)]
+pub struct FlowRow {
+    /// The number of the row in the table, from 1.
+    pub seq: u64,
+    /// The edge of the link.
+    pub edge: i64,
+    /// The vertex where the link begins.
+    pub start_vid: i64,
+    /// The vertex where the link leads.
+    pub end_vid: i64,
+    /// The flow over the link.
+    pub flow: u64,
+    /// The capacity of the link less its flow.
+    pub residual_capacity: u64,
+}
+
+impl Record for FlowRow {
+    ghost use Rattle.pgr_rows.specs.Text.{flows};
+
+    ghost layout = { flows };
+
+    fn header() -> &'static str {
+        "seq,edge,start_vid,end_vid,flow,residual_capacity\n"
+    }
+
+    fn gather<O: Sink>(&self, out: &mut O, piece: &mut Piece) -> Result<(), Failed> {
+        gather_line(
+            out,
+            piece,
+            &[
+                Part::Number(self.seq),
+                Part::Signed(self.edge),
+                Part::Signed(self.start_vid),
+                Part::Signed(self.end_vid),
+                Part::Number(self.flow),
+                Part::Number(self.residual_capacity),
+            ],
+        )
+    }
+}
+
+/// A row of a table of a cut: one link that leads out of its source side.
+#[derive(Clone, Copy, Debug, PartialEq, Eq)]
+pub struct CutRow {
+    /// The number of the row in the table, from 1.
+    pub seq: u64,
+    /// The edge of the link.
+    pub edge: i64,
+    /// The vertex where the link begins.
+    pub start_vid: i64,
+    /// The vertex where the link leads.
+    pub end_vid: i64,
+    /// The capacity of the link.
+    pub capacity: u64,
+}
+
+impl Record for CutRow {
+    ghost use Rattle.pgr_rows.specs.Text.{cuts};
+
+    ghost layout = { cuts };
+
+    fn header() -> &'static str {
+        "seq,edge,start_vid,end_vid,capacity\n"
+    }
+
+    fn gather<O: Sink>(&self, out: &mut O, piece: &mut Piece) -> Result<(), Failed> {
+        gather_line(
+            out,
+            piece,
+            &[
+                Part::Number(self.seq),
+                Part::Signed(self.edge),
+                Part::Signed(self.start_vid),
+                Part::Signed(self.end_vid),
+                Part::Number(self.capacity),
+            ],
+        )
+    }
+}
+
 /// The rows of a result table, with one variant for each kind of table.
 #[derive(Debug, Drop)]
 pub enum Rows {
@@ -353,4 +449,10 @@ pub enum Rows {
     Ksp(Listed<KspRow>),
     /// What a contraction leaves, of the columns `type,id,contracted_vertices,source,target,cost`.
     Contractions(Listed<ContractRow>),
+    /// The value of a flow, in the one row of the column `max_flow`.
+    Value(u64),
+    /// Flows, of the columns `seq,edge,start_vid,end_vid,flow,residual_capacity`.
+    Flows(Listed<FlowRow>),
+    /// The links of a cut, of the columns `seq,edge,start_vid,end_vid,capacity`.
+    Cuts(Listed<CutRow>),
 }

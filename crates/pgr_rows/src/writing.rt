@@ -1,8 +1,8 @@
-ghost use Rattle.std.specs.Prelude.{◌≡◌, ◌≤◌, ◌++◌, OnOk, OnErr};
+ghost use Rattle.std.specs.Prelude.{◌≡◌, ◌≤◌, [], ◌∷◌, ◌++◌, OnOk, OnErr};
 ghost use Rattle.pgr_outside.specs.Faults.{HasRisen};
 ghost use Rattle.pgr_outside.specs.Sink.{with_added, AddsPrefix};
 ghost use Rattle.pgr_rows.specs.Layout.{lines_of, table_text};
-ghost use Rattle.pgr_rows.specs.Text.{text_of};
+ghost use Rattle.pgr_rows.specs.Text.{text_of, values};
 
 use crate::line::Piece;
 use crate::record::Record;
@@ -30,7 +30,20 @@ pub fn write_table<O: Sink>(out: &mut O, rows: &Rows) -> Result<(), Failed>
         Rows::Reaches(rows) => write_records(out, rows),
         Rows::Ksp(rows) => write_records(out, rows),
         Rows::Contractions(rows) => write_records(out, rows),
+        Rows::Value(value) => write_value(out, *value),
+        Rows::Flows(rows) => write_records(out, rows),
+        Rows::Cuts(rows) => write_records(out, rows),
     }
+}
+
+/// Writes the header line of a value, and then its line.
+fn write_value<O: Sink>(out: &mut O, value: u64) -> Result<(), Failed>
+    ensures text { OnOk result (O.written out.new ≡ with_added (O.written out.old) (table_text values (value ∷ []))) }
+    ensures failed { OnErr result (HasRisen (O.faults out.old) (O.faults out.new)) }
+    ensures front { OnErr result (AddsPrefix (O.written out.old) (O.written out.new) (table_text values (value ∷ []))) }
+    ensures faults { O.faults out.old ≤ O.faults out.new }
+{
+    write_rows(out, <u64 as Record>::header(), &[value])
 }
 
 /// Writes the header line of a kind of row, and then the lines of rows.
@@ -54,8 +67,18 @@ fn write_under<O: Sink, R: Record>(
     ensures front { OnErr result (AddsPrefix (O.written out.old) (O.written out.new) (header.now ++ lines_of R.layout rows.now)) }
     ensures faults { O.faults out.old ≤ O.faults out.new }
 {
+    write_rows(out, header, rows.as_slice())
+}
+
+/// Writes a header line, and then the lines of rows.
+fn write_rows<O: Sink, R: Record>(out: &mut O, header: &str, rows: &[R]) -> Result<(), Failed>
+    ensures text { OnOk result (O.written out.new ≡ with_added (O.written out.old) (header.now ++ lines_of R.layout rows.now)) }
+    ensures failed { OnErr result (HasRisen (O.faults out.old) (O.faults out.new)) }
+    ensures front { OnErr result (AddsPrefix (O.written out.old) (O.written out.new) (header.now ++ lines_of R.layout rows.now)) }
+    ensures faults { O.faults out.old ≤ O.faults out.new }
+{
     write_all(out, header.as_bytes())?;
-    write_lines(out, rows.as_slice())?;
+    write_lines(out, rows)?;
     Ok(())
 }
 
@@ -77,7 +100,9 @@ fn write_lines<O: Sink, R: Record>(out: &mut O, rows: &[R]) -> Result<(), Failed
 #[cfg(test)]
 mod tests {
     use super::*;
-    use crate::rows::{ClassRow, ContractRow, CostRow, KspRow, PartRow, PathRow, ReachRow};
+    use crate::rows::{
+        ClassRow, ContractRow, CostRow, CutRow, FlowRow, KspRow, PartRow, PathRow, ReachRow,
+    };
     use pgr_outside::MemorySink;
     use std::test::Fail;
 
@@ -236,6 +261,48 @@ mod tests {
         assert_eq!(rt;
             out.bytes(),
             b"type,id,contracted_vertices,source,target,cost\nv,7,{2},-1,-1,-1\nv,7,\"{-3,10,4}\",-1,-1,-1\ne,-1,\"{5,6}\",1,4,9\n".as_slice()
+        );
+        Ok(())
+    }
+
+    #[test]
+    fn a_value_is_one_line_also_where_it_is_0(rt: HostRuntime) -> Result<(), Fail> {
+        let mut out = MemorySink::with_room(rt.alloc(), 64, 7, Vec::new(rt.alloc()))?;
+        write_table(&mut out, &Rows::Value(0))?;
+        assert_eq!(rt; out.bytes(), b"max_flow\n0\n".as_slice());
+        Ok(())
+    }
+
+    #[test]
+    fn rows_of_flows_and_of_cuts_end_with_capacities(rt: HostRuntime) -> Result<(), Fail> {
+        let mut rows = Vec::new(rt.alloc());
+        rows.push(FlowRow {
+            seq: 1,
+            edge: 2,
+            start_vid: -3,
+            end_vid: 4,
+            flow: 5,
+            residual_capacity: 18446744073709551615,
+        })?;
+        let mut out = MemorySink::with_room(rt.alloc(), 128, 7, Vec::new(rt.alloc()))?;
+        write_table(&mut out, &Rows::Flows(Listed::from_vec(rows)))?;
+        assert_eq!(rt;
+            out.bytes(),
+            b"seq,edge,start_vid,end_vid,flow,residual_capacity\n1,2,-3,4,5,18446744073709551615\n".as_slice()
+        );
+        let mut rows = Vec::new(rt.alloc());
+        rows.push(CutRow {
+            seq: 1,
+            edge: 2,
+            start_vid: -3,
+            end_vid: 4,
+            capacity: 6,
+        })?;
+        let mut out = MemorySink::with_room(rt.alloc(), 64, 7, Vec::new(rt.alloc()))?;
+        write_table(&mut out, &Rows::Cuts(Listed::from_vec(rows)))?;
+        assert_eq!(rt;
+            out.bytes(),
+            b"seq,edge,start_vid,end_vid,capacity\n1,2,-3,4,6\n".as_slice()
         );
         Ok(())
     }

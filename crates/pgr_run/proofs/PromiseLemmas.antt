@@ -1,6 +1,6 @@
 -- What the promise says of each cause.
 use Rattle.std.proofs.Common.{◌≡◌, ◌≢◌, ℕ, List, [], ◌∷◌, ◌++◌, Option, Some, None, Ok, Err, Result, inl, inr, sym, ap, subst, ◌∙◌, refl}
-use Rattle.std.specs.Prelude.{◌⊎◌, All, IfOk, IfErr, IsErrAnd, IsErrOf, IsOkAnd, IfSome, IsSomeAnd}
+use Rattle.std.specs.Prelude.{◌⊎◌, All, IfOk, IfErr, IsErr, IsErrAnd, IsErrOf, IsOkAnd, IfSome, IsSomeAnd}
 use Rattle.std.proofs.lemmas.List.Elements.{All-head, All-tail}
 use Rattle.pgr_outside.specs.Faults.{HasRisen}
 use Rattle.pgr_words.specs.declared.command.Command.{Command}
@@ -115,6 +115,13 @@ done_where words content result P x was told =
       none found (inl e) = cc
       none found (inr (inl e)) = cc
       none found (inr (inr (role, e))) = cc
+
+-- where the words break a rule the status is that of the words, or of out of memory
+pub words_where : (asked : Result Command WordFault) (result : Ended) (got : Cause) (status : Status) → result ≡ Err got → status ≡ status_of got
+    → IfErr asked (λ fault. IsErrOf result (cause.Words fault) ⊎ IsErrOf result (cause.Refused refused.Memory)) → IsErr asked → (status ≡ Words) ⊎ (status ≡ Memory)
+words_where (Ok command) result got status is same told wrong = absurd (cc wrong)
+words_where (Err fault) result got status is same (inl e) wrong = let this : got ≡ cause.Words fault = cc in inl (same ∙ ap status_of this)
+words_where (Err fault) result got status is same (inr e) wrong = let this : got ≡ cause.Refused refused.Memory = cc in inr (same ∙ ap status_of this)
 
 -- the file that stands behind a prefix of a list has what all of the list have
 among : (P : File → Type 0) (all front : List File) (file : File) (back : List File) → all ≡ front ++ file ∷ back → All P all → P file

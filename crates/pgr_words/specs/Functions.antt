@@ -17,6 +17,10 @@ pair_options = Edges ∷ Start ∷ End ∷ Combinations ∷ Directed ∷ []
 abbrev pub edge_options : List OptionName
 edge_options = Edges ∷ []
 
+-- the options of a function of flows from the starts to the ends, in the same order
+abbrev pub flow_options : List OptionName
+flow_options = Edges ∷ Start ∷ End ∷ []
+
 -- the options of a function that asks for all pairs of one list, in the same order
 abbrev pub matrix_options : List OptionName
 matrix_options = Edges ∷ Vids ∷ Directed ∷ []
@@ -52,6 +56,9 @@ functions =
     ∷ (codes "pgr_withPoints", (function.WithPoints, point_options))
     ∷ (codes "pgr_KSP", (function.Ksp, ksp_options))
     ∷ (codes "pgr_contraction", (function.Contraction, contraction_options))
+    ∷ (codes "pgr_maxFlow", (function.MaxFlow, flow_options))
+    ∷ (codes "pgr_edmondsKarp", (function.EdmondsKarp, flow_options))
+    ∷ (codes "minCut", (function.MinCut, flow_options))
     ∷ []
 
 -- the function that is called so, and its options

@@ -30,6 +30,12 @@ pub enum Function {
     Ksp,
     /// `pgr_contraction`: vertices taken away so that every distance stays.
     Contraction,
+    /// `pgr_maxFlow`: the value of a greatest flow.
+    MaxFlow,
+    /// `pgr_edmondsKarp`: a greatest flow, link by link.
+    EdmondsKarp,
+    /// `minCut`: the links that leave the least source side of a least cut.
+    MinCut,
 }
 
 /// The options of a function that asks for pairs, in the order in which needed ones are looked for.
@@ -43,6 +49,9 @@ const PAIR_OPTIONS: [OptionName; 5] = [
 
 /// The options of a function that asks about the edges as a whole.
 const EDGE_OPTIONS: [OptionName; 1] = [OptionName::Edges];
+
+/// The options of a function of flows from the starts to the ends, in the same order.
+const FLOW_OPTIONS: [OptionName; 3] = [OptionName::Edges, OptionName::Start, OptionName::End];
 
 /// The options of a function that asks for all pairs of one list, in the same order.
 const MATRIX_OPTIONS: [OptionName; 3] = [OptionName::Edges, OptionName::Vids, OptionName::Directed];
@@ -105,6 +114,9 @@ impl Function {
             "pgr_withPoints" => Some((Function::WithPoints, &POINT_OPTIONS)),
             "pgr_KSP" => Some((Function::Ksp, &KSP_OPTIONS)),
             "pgr_contraction" => Some((Function::Contraction, &CONTRACTION_OPTIONS)),
+            "pgr_maxFlow" => Some((Function::MaxFlow, &FLOW_OPTIONS)),
+            "pgr_edmondsKarp" => Some((Function::EdmondsKarp, &FLOW_OPTIONS)),
+            "minCut" => Some((Function::MinCut, &FLOW_OPTIONS)),
             _ => None,
         }
     }

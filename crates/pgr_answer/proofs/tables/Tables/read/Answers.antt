@@ -13,3 +13,7 @@ returns-in_ok-self-in-Points c =
 pub returns-in_ok-self-in-Combinations : goal.returns-in_ok-self-in-Combinations
 returns-in_ok-self-in-Combinations c =
     (λ tables. record tables { combinations = c.in_ok-self-in-Combinations.field-0 }, rw (c.in-Combinations.is, c.in_ok-self-in-Combinations.ensures) refl, refl)
+
+pub returns-in_ok-self-in-Capacities : goal.returns-in_ok-self-in-Capacities
+returns-in_ok-self-in-Capacities c =
+    (λ tables. record tables { capacities = c.in_ok-self-in-Capacities.field-0 }, rw (c.in-Capacities.is, c.in_ok-self-in-Capacities.ensures) refl, refl)

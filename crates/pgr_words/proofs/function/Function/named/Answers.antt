@@ -17,4 +17,7 @@ returns-in_default c = rw (
   differs _ _ c.in_default.not-pgr_withPoints,
   differs _ _ c.in_default.not-pgr_KSP,
   differs _ _ c.in_default.not-pgr_contraction,
+  differs _ _ c.in_default.not-pgr_maxFlow,
+  differs _ _ c.in_default.not-pgr_edmondsKarp,
+  differs _ _ c.in_default.not-minCut,
 ) refl
