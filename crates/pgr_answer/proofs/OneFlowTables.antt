@@ -1,12 +1,12 @@
 -- One value and one cut at most are allowed: a greatest value is at most another one, and a least source side is a subset of another one.
-use Rattle.std.proofs.Common.{◌≡◌, ◌⊎◌, inl, inr, ℕ, ◌+◌, Bool, true, false, List, [], ◌∷◌, refl, sym, ap, ◌∙◌, subst, arith}
+use Rattle.std.proofs.Common.{◌≡◌, inl, inr, ℕ, Bool, true, false, List, refl, sym, ap, ◌∙◌, subst, arith}
 use Rattle.std.specs.Prelude.{ℤ, filter}
 use Rattle.std.specs.Ordering.{int_cmp}
 use Rattle.std.proofs.lemmas.Cmp.{int_cmp_total, on_total, then_total}
 use Rattle.pgr_words.specs.declared.command.Command.{Command}
 use Rattle.pgr_walks.specs.declared.link.LinkOf.{LinkOf}
+use Rattle.pgr_walks.specs.Link.{arc_cmp}
 use Rattle.pgr_table.specs.declared.row.CapacityRow.{CapacityRow}
-use Rattle.pgr_graph.specs.Arcs.{arc_cmp}
 use Rattle.pgr_flow.specs.Cut.{leads_out}
 use Rattle.pgr_rows.specs.declared.rows.CutRow.{CutRow}
 use Rattle.pgr_rows.specs.declared.rows.Rows.{Rows}
@@ -34,7 +34,7 @@ one_value arcs starts ends value other (inr (apart, (flows, found))) (inr (also,
     omega (arith, found.value_is, other_found.value_is, found.greatest others other_found.flow, other_found.greatest flows found.flow)
 
 -- tests that each hold where the other does are the same
-same_test : (b c : Bool) → (b ≡ true → c ≡ true) → (c ≡ true → b ≡ true) → b ≡ c
+pub same_test : (b c : Bool) → (b ≡ true → c ≡ true) → (c ≡ true → b ≡ true) → b ≡ c
 same_test true c into back = sym (into refl)
 same_test false true into back = back refl
 same_test false false into back = refl

@@ -4,8 +4,9 @@ use Rattle.std.specs.List.{list_any}
 use Rattle.std.specs.Ordering.{int_cmp, int_eq}
 use Rattle.pgr_outside.specs.Lists.{IsStrictlyRising}
 use Rattle.pgr_walks.specs.declared.link.LinkOf.{LinkOf}
+use Rattle.pgr_walks.specs.Link.{arc_cmp}
 use Rattle.pgr_table.specs.declared.row.CapacityRow.{CapacityRow}
-use Rattle.pgr_graph.specs.Arcs.{IsArcOfTable, arc_cmp}
+use Rattle.pgr_graph.specs.Arcs.{IsArcOfTable}
 use Rattle.pgr_flow.specs.Flow.{IsGreatestFlow, among}
 use Rattle.pgr_flow.specs.Cut.{IsLeastSide}
 

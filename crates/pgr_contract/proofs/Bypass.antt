@@ -2,6 +2,7 @@
 use Rattle.std.proofs.Common.{◌≡◌, ◌≢◌, ◌⊎◌, inl, inr, ℕ, ◌+◌, ◌≤◌, List, [], ◌∷◌, ◌++◌, refl, sym, subst, ◌∙◌, arith}
 use Rattle.pgr_walks.specs.declared.link.LinkOf.{LinkOf}
 use Rattle.pgr_walks.specs.Walk.{IsWalk, cost_of}
+use Rattle.pgr_walks.proofs.BackWalks.{walk-append, cost_of-append}
 
 -- some walk leads from s to t and costs no more
 pub record WalkWithin {V : Type 0} (Has : LinkOf V → Type 0) (s t : V) (cost : ℕ) : Type 0 where
@@ -85,16 +86,6 @@ module _ {V : Type 0} (same : (x y : V) → (x ≡ y) ⊎ (x ≢ y)) (Has Kept :
   pub led_past : (s t : V) (walk : List (LinkOf V)) → s ≢ v → t ≢ v → IsWalk Has s walk t → WalkWithin Kept s t (cost_of walk)
   led_past s t walk from to w = (past_it t to walk).apart s from w
 
--- one walk after another
-pub joined : {V : Type 0} (Has : LinkOf V → Type 0) (a b t : V) (first second : List (LinkOf V)) → IsWalk Has a first b → IsWalk Has b second t
-    → IsWalk Has a (first ++ second) t
-joined Has a b t [] second w v = subst (λ x. IsWalk Has x second t) (sym w) v
-joined Has a b t (link ∷ rest) second w v = (w.0, w.1, joined Has link.to b t rest second w.2 v)
-
-pub cost_of-append : {V : Type 0} (first second : List (LinkOf V)) → cost_of (first ++ second) ≡ cost_of first + cost_of second
-cost_of-append [] second = omega arith
-cost_of-append (link ∷ rest) second = omega (arith, cost_of-append rest second)
-
 -- where each link of one set has a walk over the other that costs no more, so has each walk
 pub spelled : {V : Type 0} (Has Kept : LinkOf V → Type 0) → ((link : LinkOf V) → Kept link → WalkWithin Has link.from link.to link.cost) → (s t : V) (walk : List (LinkOf V))
     → IsWalk Kept s walk t → WalkWithin Has s t (cost_of walk)
@@ -104,6 +95,6 @@ spelled Has Kept spell s t (link ∷ rest) w =
     let second = spelled Has Kept spell link.to t rest w.2 in
     record {
       walk = first.walk ++ second.walk;
-      is_walk = joined Has s link.to t first.walk second.walk (subst (λ x. IsWalk Has x first.walk link.to) w.1 first.is_walk) second.is_walk;
+      is_walk = walk-append Has s link.to t first.walk second.walk (subst (λ x. IsWalk Has x first.walk link.to) w.1 first.is_walk) second.is_walk;
       within = omega (arith, first.within, second.within, cost_of-append first.walk second.walk);
     }

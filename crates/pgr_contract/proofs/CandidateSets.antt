@@ -10,6 +10,8 @@ use Rattle.std.proofs.lemmas.Int.{ints}
 use Rattle.std.proofs.lemmas.List.Elements.{Contains-append_left, Contains-append_cases, Contains-push, Contains-push_cases}
 use Rattle.std.proofs.lemmas.List.{take_more}
 use Rattle.std.proofs.lemmas.List.Concat.{flat_map-append}
+use Rattle.std.proofs.lemmas.Bool.{true≢false}
+use Rattle.pgr_outside.proofs.Lists.{Contains-cons_cases, Contains-none}
 use Rattle.pgr_walks.specs.declared.link.LinkOf.{LinkOf}
 use Rattle.pgr_words.specs.declared.method.Method.{Method}
 use Rattle.pgr_contract.specs.declared.event.Event.{Event}
@@ -17,11 +19,7 @@ use Rattle.pgr_contract.specs.State.{ends_of}
 use Rattle.pgr_contract.specs.Steps.{Qualifies}
 use Rattle.pgr_contract.specs.Events.{IsFound}
 use Rattle.pgr_contract.specs.Candidates.{Among, AreEndsIn, IsAdded, IsTakenOut}
-use Rattle.pgr_contract.proofs.Lists.{Contains-cons_cases, Contains-none}
 use Rattle.pgr_contract.proofs.Ids.{same_id, eq-int_eq, ne-int_eq}
-
-true_not : true ≡ false → ⊥
-true_not e = cc
 
 -- an id more in the set
 pub among-new : (id : ℤ) (old new : BTreeSet ℤ) → ((q : ℤ) → contains int_cmp new q ≡ cond (int_eq id q) true (contains int_cmp old q)) → (x : ℤ)
@@ -41,7 +39,7 @@ IsAdded-by barred id old new changed free = record {
   added = λ not_barred. (among-new id old new changed id).1 (inr refl);
   allowed = λ x h. elim ((among-new id old new changed x).0 h) as (λ _. Among old x ⊎ ¬ Among barred x) [
     | inl had ↦ inl had
-    | inr same ↦ inr (λ is. true_not (sym is ∙ (ap (contains int_cmp barred) (sym same) ∙ free)))
+    | inr same ↦ inr (λ is. true≢false (sym is ∙ (ap (contains int_cmp barred) (sym same) ∙ free)))
   ];
 }
 
@@ -51,10 +49,12 @@ IsAdded-not barred id set is = record { kept = λ x h. h; added = λ free. absur
 
 -- ends of one link more
 ends-more : (links : List (LinkOf ℤ)) (link : LinkOf ℤ) (x : ℤ) → Contains (ends_of (links ++ link ∷ [])) x → Contains (ends_of links) x ⊎ ((link.from ≡ x) ⊎ (link.to ≡ x))
-ends-more links link x h = by (Contains-append_cases (ends_of links) (link.from ∷ link.to ∷ []) x (subst (λ l. Contains l x) (flat_map-append (λ (l : LinkOf ℤ). l.from ∷ l.to ∷ []) links (link ∷ [])) h))
+ends-more links link x h =
+    by (Contains-append_cases (ends_of links) (link.from ∷ link.to ∷ []) x (subst (λ l. Contains l x) (flat_map-append (λ (l : LinkOf ℤ). l.from ∷ l.to ∷ []) links (link ∷ [])) h))
   where
     last : Contains (link.to ∷ []) x → Contains (ends_of links) x ⊎ ((link.from ≡ x) ⊎ (link.to ≡ x))
-    last h = elim (Contains-cons_cases link.to [] x h) as (λ _. Contains (ends_of links) x ⊎ ((link.from ≡ x) ⊎ (link.to ≡ x))) [ inl to ↦ inr (inr to) | inr none ↦ absurd (Contains-none x none) ]
+    last h = elim (Contains-cons_cases link.to [] x h) as (λ _. Contains (ends_of links) x ⊎ ((link.from ≡ x) ⊎ (link.to ≡ x)))
+        [ inl to ↦ inr (inr to) | inr none ↦ absurd (Contains-none x none) ]
 
     by : Contains (ends_of links) x ⊎ Contains (link.from ∷ link.to ∷ []) x → Contains (ends_of links) x ⊎ ((link.from ≡ x) ⊎ (link.to ≡ x))
     by (inl old) = inl old
@@ -63,7 +63,8 @@ ends-more links link x h = by (Contains-append_cases (ends_of links) (link.from 
       | inr rest ↦ last rest
     ]
 
-pub AreEndsIn-more : (links : List (LinkOf ℤ)) (link : LinkOf ℤ) (barred old once new : BTreeSet ℤ) → AreEndsIn links barred old → IsAdded barred link.from old once → IsAdded barred link.to once new
+pub AreEndsIn-more : (links : List (LinkOf ℤ)) (link : LinkOf ℤ) (barred old once new : BTreeSet ℤ) → AreEndsIn links barred old → IsAdded barred link.from old once
+    → IsAdded barred link.to once new
     → AreEndsIn (links ++ link ∷ []) barred new
 AreEndsIn-more links link barred old once new so_far first second = record {
   all = λ x h free. elim (ends-more links link x h) as (λ _. Among new x) [
@@ -82,7 +83,7 @@ AreEndsIn-more links link barred old once new so_far first second = record {
 pub AreEndsIn-none : (barred set : BTreeSet ℤ) → set.keys ≡ [] → AreEndsIn [] barred set
 AreEndsIn-none barred set empty = record {
   all = λ x h. absurd (Contains-none x h);
-  allowed = λ x h. absurd (true_not (sym h ∙ empty_has x));
+  allowed = λ x h. absurd (true≢false (sym h ∙ empty_has x));
 }
   where
     empty_has : (x : ℤ) → contains int_cmp set x ≡ false
@@ -118,7 +119,7 @@ among-gone id old new changed x = by (same_id id x) where
   by : (id ≡ x) ⊎ (id ≢ x) → Among new x ↔ (Among old x × (x ≢ id))
   by (inl same) =
       let gone : contains int_cmp new x ≡ false = changed x ∙ ap (λ b. cond b false (contains int_cmp old x)) (eq-int_eq id x same) in
-      ((λ h. absurd (true_not (sym h ∙ gone))), (λ both. absurd (both.1 (sym same))))
+      ((λ h. absurd (true≢false (sym h ∙ gone))), (λ both. absurd (both.1 (sym same))))
   by (inr differs) =
       let now : contains int_cmp new x ≡ contains int_cmp old x = changed x ∙ ap (λ b. cond b false (contains int_cmp old x)) (ne-int_eq id x differs) in
       ((λ h. (sym now ∙ h, (λ e. differs (sym e)))), (λ both. now ∙ both.0))
@@ -128,7 +129,7 @@ no_more x y h = by (int_cmp x y) refl h where
   by : (o : Ordering) → int_cmp x y ≡ o → is_gt o ≡ false → x ≤ℤ y
   by Less e f = let less : x <ℤ y = int_ranked x y Less (sym e) in omega (arith, ints)
   by Equal e f = let same : x ≡ y = int_ranked x y Equal (sym e) in omega (arith, ints)
-  by Greater e f = absurd (true_not f)
+  by Greater e f = absurd (true≢false f)
 
 -- the least candidate qualifies
 pub taken_out : (method : Method) (links : List (LinkOf ℤ)) (initial now new : BTreeSet ℤ) (event : Event) (v : ℤ) → AreLeft method links initial now
@@ -159,14 +160,15 @@ nothing-among (k ∷ ks) x e = absurd (omega (arith, e))
 pub all_out : (method : Method) (links : List (LinkOf ℤ)) (initial now new : BTreeSet ℤ) → AreLeft method links initial now → length now.keys ≡ 0 → new.keys ≡ now.keys
     → ((x : ℤ) → Among initial x → ¬ Qualifies method (Contains links) x) × ((x : ℤ) → Among new x → Among initial x)
 all_out method links initial now new left empty same = (
-  (λ x h qualifies. true_not (sym (left.left x h qualifies) ∙ nothing-among now.keys x empty)),
-  (λ x h. absurd (true_not (sym h ∙ (ap (list_any (is_at (int_cmp x))) same ∙ nothing-among now.keys x empty)))),
+  (λ x h qualifies. true≢false (sym (left.left x h qualifies) ∙ nothing-among now.keys x empty)),
+  (λ x h. absurd (true≢false (sym h ∙ (ap (list_any (is_at (int_cmp x))) same ∙ nothing-among now.keys x empty)))),
 )
 
 pub AreLeft-first : (method : Method) (links : List (LinkOf ℤ)) (set : BTreeSet ℤ) → AreLeft method links set set
 AreLeft-first method links set = record { left = λ x h qualifies. h; fewer = λ x h. h }
 
 -- ends of one link more
-pub AreEndsIn-take : (links : List (LinkOf ℤ)) (i : ℕ) (link : LinkOf ℤ) (barred set : BTreeSet ℤ) → i < length links → AreEndsIn (take i links ++ get_or links i link ∷ []) barred set
+pub AreEndsIn-take : (links : List (LinkOf ℤ)) (i : ℕ) (link : LinkOf ℤ) (barred set : BTreeSet ℤ) → i < length links
+    → AreEndsIn (take i links ++ get_or links i link ∷ []) barred set
     → AreEndsIn (take (i + 1) links) barred set
 AreEndsIn-take links i link barred set below ends = subst (λ ls. AreEndsIn ls barred set) (sym (take_more links i link below)) ends

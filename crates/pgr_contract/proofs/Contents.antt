@@ -1,9 +1,11 @@
 -- What vertices and shortcuts hold is where things rest.
-use Rattle.std.proofs.Common.{◌≡◌, ◌⊎◌, inl, inr, ℕ, zero, suc, ◌+◌, ℤ, pos, negsuc, Bool, true, false, ◌||◌, List, [], ◌∷◌, ◌++◌, Some, None, refl, sym, subst, ◌∙◌, ap, arith}
+use Rattle.std.proofs.Common.{◌≡◌, ◌⊎◌, inl, inr, ℕ, zero, suc, ◌+◌, ℤ, negsuc, Bool, true, false, List, [], ◌∷◌, ◌++◌, Some, None, refl, sym, subst, ◌∙◌, ap, arith}
 use Rattle.std.specs.Prelude.{◌↔◌}
 use Rattle.std.specs.List.{Contains, flat_map, filter, slice_get, AllZip}
 use Rattle.std.specs.Ordering.{int_eq}
 use Rattle.std.proofs.lemmas.List.Elements.{Contains-append_left, Contains-append_right, Contains-append_cases}
+use Rattle.std.proofs.lemmas.Bool.{or_cases, or_left, or_right}
+use Rattle.pgr_outside.proofs.Lists.{Contains-here, Contains-later, Contains-cons_cases, Contains-none, Contains-filter, Contains-from_filter, Contains-flat_map, Contains-from_flat_map}
 use Rattle.pgr_walks.specs.declared.link.LinkOf.{LinkOf}
 use Rattle.pgr_walks.specs.Reaches.{turned}
 use Rattle.pgr_contract.specs.declared.event.Event.{Event}
@@ -13,7 +15,6 @@ use Rattle.pgr_contract.specs.declared.held.Holder.TheVariants.{At, Over}
 use Rattle.pgr_contract.specs.Given.{AreGiven}
 use Rattle.pgr_contract.specs.State.{Made, State, ends_of, touches, left_of, inside_of, inside_of_edge, link_of_made}
 use Rattle.pgr_contract.specs.Held.{goes_with, rest_of, Tag, tags_of}
-use Rattle.pgr_contract.proofs.Lists.{Contains-here, Contains-later, Contains-cons_cases, Contains-none, Contains-filter, Contains-from_filter, Contains-flat_map, Contains-from_flat_map}
 use Rattle.pgr_contract.proofs.Ids.{int_eq-true, eq-int_eq, touches-true, touched_from, touched_to}
 use Rattle.pgr_contract.proofs.MadeLinks.{IsMade}
 use Rattle.pgr_contract.proofs.Sound.{IsSound}
@@ -41,7 +42,8 @@ pub record IsHolding (directed : Bool) (given : List (LinkOf ℤ)) (events : Lis
   pub at : (z x : ℤ) → Contains S.vertices z → Contains (S.inside z) x ↔ (rest_of events x ≡ Some (At z))
   pub ended : (x : ℤ) (h : Holder) → rest_of events x ≡ Some h → Contains (ends_of given) x
   pub tag_ends : (n : ℕ) (t : Tag) → slice_get (tags_of directed events) n ≡ Some t → Contains (ends_of given) t.from × Contains (ends_of given) t.to
-  pub one_span : (n k : ℕ) (t s : Tag) → slice_get (tags_of directed events) n ≡ Some t → slice_get (tags_of directed events) k ≡ Some s → t.span.vertex ≡ s.span.vertex → t.span ≡ s.span
+  pub one_span : (n k : ℕ) (t s : Tag) → slice_get (tags_of directed events) n ≡ Some t → slice_get (tags_of directed events) k ≡ Some s → t.span.vertex ≡ s.span.vertex
+      → t.span ≡ s.span
   pub at_stands : (x z : ℤ) → rest_of events x ≡ Some (At z) → Contains S.vertices z
   pub tags : AllZip IsTagged S.made (tags_of directed events)
   pub ends : (n : ℕ) (t : Tag) → slice_get (tags_of directed events) n ≡ Some t → HasEnds t
@@ -69,36 +71,23 @@ made_of (x ∷ made) (s ∷ tags) zip (suc n) t e = let (m, has) = made_of made 
 abbrev pub IsLeft : List Event → ℤ → ℤ → Type 0
 IsLeft events v x = (x ≡ v) ⊎ ((h : Holder) × ((rest_of events x ≡ Some h) × (goes_with h v ≡ true)))
 
-or-cases : (a b : Bool) → (a || b) ≡ true → (a ≡ true) ⊎ (b ≡ true)
-or-cases true b e = inl refl
-or-cases false b e = inr e
-
-or-first : (a b : Bool) → a ≡ true → (a || b) ≡ true
-or-first a b e = ap (λ x. x || b) e
-
-or-second : (a b : Bool) → b ≡ true → (a || b) ≡ true
-or-second true b e = refl
-or-second false b e = e
-
 -- a shortcut that ends at v goes with it
 span_goes : (t : Tag) (v : ℤ) → HasEnds t → (t.from ≡ v) ⊎ (t.to ≡ v) → goes_with (Over t.span) v ≡ true
-span_goes t v (inl ends) (inl is) = or-first (int_eq t.span.low v) (int_eq t.span.high v) (eq-int_eq t.span.low v (sym ends.0 ∙ is))
-span_goes t v (inl ends) (inr is) = or-second (int_eq t.span.low v) (int_eq t.span.high v) (eq-int_eq t.span.high v (sym ends.1 ∙ is))
-span_goes t v (inr ends) (inl is) = or-second (int_eq t.span.low v) (int_eq t.span.high v) (eq-int_eq t.span.high v (sym ends.0 ∙ is))
-span_goes t v (inr ends) (inr is) = or-first (int_eq t.span.low v) (int_eq t.span.high v) (eq-int_eq t.span.low v (sym ends.1 ∙ is))
+span_goes t v (inl ends) (inl is) = or_left (int_eq t.span.low v) (int_eq t.span.high v) (eq-int_eq t.span.low v (sym ends.0 ∙ is))
+span_goes t v (inl ends) (inr is) = or_right (int_eq t.span.low v) (int_eq t.span.high v) (eq-int_eq t.span.high v (sym ends.1 ∙ is))
+span_goes t v (inr ends) (inl is) = or_right (int_eq t.span.low v) (int_eq t.span.high v) (eq-int_eq t.span.high v (sym ends.0 ∙ is))
+span_goes t v (inr ends) (inr is) = or_left (int_eq t.span.low v) (int_eq t.span.high v) (eq-int_eq t.span.low v (sym ends.1 ∙ is))
 
 goes_span : (t : Tag) (v : ℤ) → HasEnds t → goes_with (Over t.span) v ≡ true → (t.from ≡ v) ⊎ (t.to ≡ v)
-goes_span t v ends e = by ends (or-cases (int_eq t.span.low v) (int_eq t.span.high v) e) where
+goes_span t v ends e = by ends (or_cases (int_eq t.span.low v) (int_eq t.span.high v) e) where
   by : HasEnds t → (int_eq t.span.low v ≡ true) ⊎ (int_eq t.span.high v ≡ true) → (t.from ≡ v) ⊎ (t.to ≡ v)
   by (inl is) (inl low) = inl (is.0 ∙ int_eq-true t.span.low v low)
   by (inl is) (inr high) = inr (is.1 ∙ int_eq-true t.span.high v high)
   by (inr is) (inl low) = inr (is.1 ∙ int_eq-true t.span.low v low)
   by (inr is) (inr high) = inl (is.0 ∙ int_eq-true t.span.high v high)
 
-no_pos : (n m : ℕ) → pos n ≡ negsuc m → ⊥
-no_pos n m e = cc
-
-module _ (directed : Bool) (given : List (LinkOf ℤ)) (are_given : AreGiven given) (events : List Event) (S : State) (sound : IsSound directed given S) (holding : IsHolding directed given events S)
+module _ (directed : Bool) (given : List (LinkOf ℤ)) (are_given : AreGiven given) (events : List Event) (S : State) (sound : IsSound directed given S)
+    (holding : IsHolding directed given events S)
     (v : ℤ) (stands : Contains S.vertices v) where
   -- what a link of v holds rests at a shortcut that ends there
   of_link : (link : LinkOf ℤ) (x : ℤ) → Contains S.links link → (link.from ≡ v) ⊎ (link.to ≡ v) → Contains (inside_of_edge S.made link.edge) x

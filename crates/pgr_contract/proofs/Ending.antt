@@ -2,6 +2,8 @@
 use Rattle.std.proofs.Common.{◌≡◌, ◌⊎◌, inl, inr, ℕ, suc, ◌+◌, ◌≤◌, ℤ, pos, Bool, true, false, ◌&&◌, List, [], ◌∷◌, map, refl, sym, subst, ◌∙◌, ap, arith}
 use Rattle.std.specs.Prelude.{◌↔◌}
 use Rattle.std.specs.List.{Contains}
+use Rattle.std.proofs.lemmas.Bool.{and_parts, and_from}
+use Rattle.pgr_outside.proofs.Lists.{Contains-here, Contains-later, Contains-cons_cases, Contains-none, Contains-filter, Contains-from_filter, Contains-map, Contains-from_map}
 use Rattle.pgr_walks.specs.declared.link.LinkOf.{LinkOf}
 use Rattle.pgr_words.specs.declared.method.Method.{Method}
 use Rattle.pgr_contract.specs.Run.{IsRun}
@@ -16,7 +18,6 @@ use Rattle.pgr_contract.specs.Weight.{weight}
 use Rattle.pgr_contract.specs.Distances.{KeepsDistances}
 use Rattle.pgr_contract.specs.Survivors.{IsHeldIn}
 use Rattle.pgr_contract.specs.Shown.{nodes_of, has_id, surviving, Shows, ShowEach, link_of_shortcut, StandsFor, IsShortcutLink, IsPrinted, IsShown, IsHeld}
-use Rattle.pgr_contract.proofs.Lists.{Contains-here, Contains-later, Contains-cons_cases, Contains-none, Contains-filter, Contains-from_filter, Contains-map}
 use Rattle.pgr_contract.proofs.MadeLinks.{IsMade}
 use Rattle.pgr_contract.proofs.Bypass.{WalkWithin}
 use Rattle.pgr_contract.proofs.StepKeeps.{Keeps, placed, at_place}
@@ -24,7 +25,7 @@ use Rattle.pgr_contract.proofs.RunKeeps.{carried, run_keeps}
 use Rattle.pgr_contract.proofs.Sound.{IsSound, first_sound, run_sound, end_from, end_to}
 use Rattle.pgr_contract.proofs.RunLogs.{run_survivors}
 use Rattle.pgr_contract.proofs.RunFits.{links_fit}
-use Rattle.pgr_contract.proofs.Showing.{has_id-true, true-has_id, both-true, true-both, Contains-from_map}
+use Rattle.pgr_contract.proofs.Showing.{has_id-true, true-has_id}
 
 -- a link of the set with the same ends and cost
 record LinkLike (Has : LinkOf ℤ → Type 0) (link : LinkOf ℤ) : Type 0 where
@@ -111,12 +112,12 @@ module _ (directed : Bool) (given : List (LinkOf ℤ)) (are_given : AreGiven giv
   survives : (m : Made) → Contains (surviving S) m → Contains S.made m × (Contains S.vertices m.from × Contains S.vertices m.to)
   survives m h =
       let (made, test) = Contains-from_filter (λ x. has_id S.vertices x.from && has_id S.vertices x.to) S.made m h in
-      let (a, b) = both-true (has_id S.vertices m.from) (has_id S.vertices m.to) test in
+      let (a, b) = and_parts (has_id S.vertices m.from) (has_id S.vertices m.to) test in
       (made, (has_id-true S.vertices m.from a, has_id-true S.vertices m.to b))
 
   left_too : (m : Made) → Contains S.made m → Contains S.vertices m.from → Contains S.vertices m.to → Contains (surviving S) m
   left_too m made from to = Contains-filter (λ x. has_id S.vertices x.from && has_id S.vertices x.to) S.made m made
-      (true-both (has_id S.vertices m.from) (has_id S.vertices m.to) (true-has_id S.vertices m.from from) (true-has_id S.vertices m.to to))
+      (and_from (has_id S.vertices m.from) (has_id S.vertices m.to) (true-has_id S.vertices m.from from) (true-has_id S.vertices m.to to))
 
   -- each link of the state is shown by one like it
   link_shown : (link : LinkOf ℤ) → Contains S.links link → LinkLike (Contains links) link

@@ -5,6 +5,7 @@ use Rattle.std.specs.List.{Contains}
 use Rattle.std.specs.Ordering.{int_eq}
 use Rattle.std.specs.BTreeSet.{BTreeSet}
 use Rattle.std.proofs.lemmas.List.Elements.{Contains-append_left, Contains-append_cases}
+use Rattle.pgr_outside.proofs.Lists.{Contains-cons_cases, Contains-none}
 use Rattle.pgr_walks.specs.declared.link.LinkOf.{LinkOf}
 use Rattle.pgr_walks.specs.Reaches.{turned}
 use Rattle.pgr_words.specs.declared.method.Method.{Method}
@@ -17,7 +18,6 @@ use Rattle.pgr_contract.specs.Run.{MayGo, IsNext}
 use Rattle.pgr_contract.specs.Events.{IsEventOf, after, vertex_of, method_of}
 use Rattle.pgr_contract.specs.Candidates.{Among, Covers, IsTakenOut, IsBeside, AreAdded}
 use Rattle.pgr_contract.specs.Running.{IsLogFrom}
-use Rattle.pgr_contract.proofs.Lists.{Contains-cons_cases, Contains-none}
 use Rattle.pgr_contract.proofs.Ids.{same_id, without_vertex-from, without_links-from, without_links-keeps, eq-int_eq}
 use Rattle.pgr_contract.proofs.MadeLinks.{IsMade, IsMade-from}
 use Rattle.pgr_contract.proofs.StepKeeps.{at_place}
@@ -43,11 +43,6 @@ pub IsLogFrom-push : (directed : Bool) (S : State) (events : List Event) (event 
     → IsLogFrom directed S (events ++ event ∷ [])
 IsLogFrom-push directed S [] event log of = (of, tt)
 IsLogFrom-push directed S (first ∷ more) event log of = (log.0, IsLogFrom-push directed (after directed S first) more event log.1 of)
-
--- and the state after it
-pub fold-push : {A B : Type 0} (f : A → B → A) (a : A) (xs : List B) (x : B) → fold f a (xs ++ x ∷ []) ≡ f (fold f a xs) x
-fold-push f a [] x = refl
-fold-push f a (y ∷ ys) x = fold-push f (f a y) ys x
 
 -- the state after a log is sound
 pub log_sound : (directed : Bool) (given : List (LinkOf ℤ)) (S : State) (events : List Event) → IsSound directed given S → IsLogFrom directed S events
@@ -191,14 +186,16 @@ covers_after directed method barred S event set new of all allowed added = recor
       elim (beside_or event x) as (λ _. Among new x) [
         | inl near ↦ added.added x near free
         | inr apart ↦ added.kept x (all x stood free
-            (qualifies_too method (Contains (after directed S event).links) (Contains S.links) x (back_at directed S event x apart) (onward_at directed S event x of differs apart) qualifies)
+            (qualifies_too method (Contains (after directed S event).links) (Contains S.links) x (back_at directed S event x apart)
+            (onward_at directed S event x of differs apart) qualifies)
             differs)
       ];
   allowed = λ x h. elim (added.allowed x h) as (λ _. ¬ Among barred x) [ inl old ↦ allowed x old | inr free ↦ free ];
 }
 
 -- a vertex that qualifies stands
-pub qualifier_stands : (directed : Bool) (given : List (LinkOf ℤ)) (method : Method) (S : State) (v : ℤ) → IsSound directed given S → Qualifies method (Contains S.links) v → Contains S.vertices v
+pub qualifier_stands : (directed : Bool) (given : List (LinkOf ℤ)) (method : Method) (S : State) (v : ℤ) → IsSound directed given S → Qualifies method (Contains S.links) v
+    → Contains S.vertices v
 qualifier_stands directed given method S v sound qualifies = by method qualifies where
   at : (x : ℤ) → IsNeighbour (Contains S.links) v x → Contains S.vertices v
   at x (differs, (link, (has, either))) = elim either as (λ _. Contains S.vertices v) [

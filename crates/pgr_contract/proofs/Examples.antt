@@ -87,8 +87,10 @@ the_least_of_two_parallels = (
           from = refl;
           to = refl;
           cost_is = refl;
-          least = λ other has from to. each_of with_a_parallel (λ l. l.from ≡ pos 2 → l.to ≡ pos 3 → 4 ≤ l.cost)
-              ((λ f t. absurd (omega (arith, ints))), ((λ f t. absurd (omega (arith, ints))), ((λ f t. absurd (omega (arith, ints))), ((λ f t. omega arith), ((λ f t. omega arith), tt)))))
+          least = λ other has from to. each_of with_a_parallel (λ l. l.from ≡ pos 2 → l.to ≡ pos 3 → 4 ≤ l.cost) (
+            (λ f t. absurd (omega (arith, ints))),
+            ((λ f t. absurd (omega (arith, ints))), ((λ f t. absurd (omega (arith, ints))), ((λ f t. omega arith), ((λ f t. omega arith), tt)))),
+          )
               other has from to;
         },
         refl,

@@ -1,5 +1,5 @@
 -- Each step leaves what vertices and shortcuts hold where things rest.
-use Rattle.std.proofs.Common.{◌≡◌, ◌≢◌, ◌⊎◌, inl, inr, ℕ, zero, suc, ◌+◌, ℤ, Bool, true, false, ◌||◌, cond, List, [], ◌∷◌, ◌++◌, length, Option, Some, None, refl, sym, subst, ◌∙◌, ap, append_assoc, arith}
+use Rattle.std.proofs.Common.{◌≡◌, ◌≢◌, ◌⊎◌, inl, inr, ℕ, zero, suc, ◌+◌, ℤ, Bool, true, false, cond, List, [], ◌∷◌, ◌++◌, length, Option, Some, None, refl, sym, subst, ◌∙◌, ap, append_assoc, arith}
 use Rattle.std.specs.Prelude.{fold, ◌↔◌, IsSome}
 use Rattle.std.specs.List.{Contains, slice_get, AllZip}
 use Rattle.std.specs.Option.{option_map}
@@ -7,7 +7,10 @@ use Rattle.std.specs.Ordering.{int_eq}
 use Rattle.std.proofs.lemmas.List.Elements.{Contains-append_left, Contains-append_right, Contains-append_cases}
 use Rattle.std.proofs.lemmas.List.Concat.{flat_map-append}
 use Rattle.std.proofs.lemmas.List.{append-nil}
-use Rattle.std.proofs.lemmas.Option.{slice_get_within}
+use Rattle.std.proofs.lemmas.Option.{slice_get_within, none-some, same_Some}
+use Rattle.std.proofs.lemmas.Bool.{cases_Bool, or_from, or_parts}
+use Rattle.std.proofs.lemmas.List.Sums.{fold_push}
+use Rattle.pgr_outside.proofs.Lists.{Contains-none}
 use Rattle.pgr_walks.specs.declared.link.LinkOf.{LinkOf}
 use Rattle.pgr_contract.specs.declared.event.Folded.{Folded}
 use Rattle.pgr_contract.specs.declared.event.Bypassed.{Bypassed}
@@ -22,14 +25,13 @@ use Rattle.pgr_contract.specs.Steps.{shortcuts_between}
 use Rattle.pgr_contract.specs.Events.{IsEventOf, after, vertex_of, method_of}
 use Rattle.pgr_contract.specs.Running.{IsLogFrom}
 use Rattle.pgr_contract.specs.Held.{span_of, holder_of, goes_with, moved, rest_after, rest_of, Tag, tag, tags_at, tags_of}
-use Rattle.pgr_contract.proofs.Lists.{Contains-none}
 use Rattle.pgr_contract.proofs.Ids.{same_id, int_eq-false, eq-int_eq, ne-int_eq, without_vertex-keeps}
 use Rattle.pgr_contract.proofs.Places.{get_first, get_second, get_either}
 use Rattle.pgr_contract.proofs.WayChanges.{none_not}
 use Rattle.pgr_contract.proofs.WayEvents.{same_both_ways}
 use Rattle.pgr_contract.proofs.Sound.{IsSound, neighbour_stands}
 use Rattle.pgr_contract.proofs.Resting.{after_sound}
-use Rattle.pgr_contract.proofs.EventSteps.{qualifier_stands, event_qualifies, vertices_after, fold-push}
+use Rattle.pgr_contract.proofs.EventSteps.{qualifier_stands, event_qualifies, vertices_after}
 use Rattle.pgr_contract.proofs.Contents.{IsTagged, HasEnds, HasTag, IsHolding, IsLeft, left_goes, goes_left}
 
 -- two lists, zipped one after the other
@@ -78,7 +80,8 @@ tag-is a b (Some c) span zero t e =
 tag-is a b (Some c) span (suc k) t e = absurd (let f = e in cc)
 
 new_tag : (directed : Bool) (event : Event) (k : ℕ) (t : Tag) → slice_get (tags_at directed event) k ≡ Some t
-    → (passed : Bypassed) × ((event ≡ Pass passed) × ((t.span ≡ span_of passed) × (((t.from ≡ passed.low) × (t.to ≡ passed.high)) ⊎ ((t.from ≡ passed.high) × (t.to ≡ passed.low)))))
+    → (passed : Bypassed)
+    × ((event ≡ Pass passed) × ((t.span ≡ span_of passed) × (((t.from ≡ passed.low) × (t.to ≡ passed.high)) ⊎ ((t.from ≡ passed.high) × (t.to ≡ passed.low)))))
 new_tag directed (End folded) k t e = absurd (let f = e in cc)
 new_tag true (Pass passed) k t e =
     elim (get_either (tag passed.low passed.high passed.there (span_of passed)) (tag passed.high passed.low passed.back (span_of passed)) k t e)
@@ -92,7 +95,8 @@ new_tag false (Pass passed) k t e = let is = tag-is passed.low passed.high passe
 some_tag : (directed : Bool) (low high : ℤ) (there back : Option ℕ) (span : Span) → IsSome there ⊎ IsSome back → (directed ≡ false → there ≡ back)
     → (t : Tag) × ((slice_get (tag low high there span ++ tag high low back span) 0 ≡ Some t) ⊎ ((directed ≡ true) → ⊥))
 some_tag directed low high there back span some same = by there back some same where
-  by : (a b : Option ℕ) → IsSome a ⊎ IsSome b → (directed ≡ false → a ≡ b) → (t : Tag) × ((slice_get (tag low high a span ++ tag high low b span) 0 ≡ Some t) ⊎ ((directed ≡ true) → ⊥))
+  by : (a b : Option ℕ) → IsSome a ⊎ IsSome b → (directed ≡ false → a ≡ b)
+      → (t : Tag) × ((slice_get (tag low high a span ++ tag high low b span) 0 ≡ Some t) ⊎ ((directed ≡ true) → ⊥))
   by None None s e = elim s as (λ _. (t : Tag) × ((slice_get (tag low high None span ++ tag high low None span) 0 ≡ Some t) ⊎ ((directed ≡ true) → ⊥))) [
     | inl h ↦ absurd (none_not h)
     | inr h ↦ absurd (none_not h)
@@ -100,7 +104,8 @@ some_tag directed low high there back span some same = by there back some same w
   by (Some c) b s e = (record { from = low; to = high; cost = c; span = span }, inl refl)
   by None (Some d) s e = (record { from = high; to = low; cost = d; span = span }, inl refl)
 
-first_tag : (directed : Bool) (passed : Bypassed) (there back : Option ℕ) → there ≡ passed.there → back ≡ passed.back → IsSome there ⊎ IsSome back → (directed ≡ false → there ≡ back)
+first_tag : (directed : Bool) (passed : Bypassed) (there back : Option ℕ) → there ≡ passed.there → back ≡ passed.back → IsSome there ⊎ IsSome back
+    → (directed ≡ false → there ≡ back)
     → (t : Tag) × (slice_get (tags_at directed (Pass passed)) 0 ≡ Some t)
 first_tag true passed (Some c) back a b some same = (
   record { from = passed.low; to = passed.high; cost = c; span = span_of passed },
@@ -120,7 +125,8 @@ first_tag directed passed None None a b some same =
     elim some as (λ _. (t : Tag) × (slice_get (tags_at directed (Pass passed)) 0 ≡ Some t)) [ inl h ↦ absurd (none_not h) | inr h ↦ absurd (none_not h) ]
 
 -- a new shortcut holds what is left
-inside_new : (directed : Bool) (low high : ℤ) (there back : Option ℕ) (inside : List ℤ) (k : ℕ) (m : Made) → slice_get (shortcuts_between directed low high there back inside) k ≡ Some m
+inside_new : (directed : Bool) (low high : ℤ) (there back : Option ℕ) (inside : List ℤ) (k : ℕ) (m : Made)
+    → slice_get (shortcuts_between directed low high there back inside) k ≡ Some m
     → m.inside ≡ inside
 inside_new true low high None None inside k m e = absurd (let f = e in cc)
 inside_new true low high None (Some d) inside zero m e = let is : record { from = high; to = low; cost = d; inside = inside } ≡ m = cc in sym (ap (λ (x : Made). x.inside) is)
@@ -128,26 +134,17 @@ inside_new true low high None (Some d) inside (suc k) m e = absurd (let f = e in
 inside_new true low high (Some c) None inside zero m e = let is : record { from = low; to = high; cost = c; inside = inside } ≡ m = cc in sym (ap (λ (x : Made). x.inside) is)
 inside_new true low high (Some c) None inside (suc k) m e = absurd (let f = e in cc)
 inside_new true low high (Some c) (Some d) inside zero m e = let is : record { from = low; to = high; cost = c; inside = inside } ≡ m = cc in sym (ap (λ (x : Made). x.inside) is)
-inside_new true low high (Some c) (Some d) inside (suc zero) m e = let is : record { from = high; to = low; cost = d; inside = inside } ≡ m = cc in sym (ap (λ (x : Made). x.inside) is)
+inside_new true low high (Some c) (Some d) inside (suc zero) m e = let is : record { from = high; to = low; cost = d; inside = inside } ≡ m = cc in
+    sym (ap (λ (x : Made). x.inside) is)
 inside_new true low high (Some c) (Some d) inside (suc (suc k)) m e = absurd (let f = e in cc)
 inside_new false low high None back inside k m e = absurd (let f = e in cc)
 inside_new false low high (Some c) back inside zero m e = let is : record { from = low; to = high; cost = c; inside = inside } ≡ m = cc in sym (ap (λ (x : Made). x.inside) is)
 inside_new false low high (Some c) back inside (suc k) m e = absurd (let f = e in cc)
 
-bool_cases : (b : Bool) → (b ≡ true) ⊎ (b ≡ false)
-bool_cases true = inl refl
-bool_cases false = inr refl
-
-some_is : {X : Type 0} (x y : X) → Some x ≡ Some y → x ≡ y
-some_is x y e = cc
-
-none_some : {X : Type 0} (x : X) → None ≡ Some x → ⊥
-none_some x e = cc
-
 -- where things are after an event
 module _ (events : List Event) (event : Event) (x : ℤ) where
   rest_push : rest_of (events ++ event ∷ []) x ≡ rest_after x (rest_of events x) event
-  rest_push = fold-push (rest_after x) None events event
+  rest_push = fold_push (rest_after x) None events event
 
   rest_left : IsLeft events (vertex_of event) x → rest_of (events ++ event ∷ []) x ≡ Some (holder_of event)
   rest_left (inl same) =
@@ -176,12 +173,12 @@ module _ (events : List Event) (event : Event) (x : ℤ) where
 
     on : (g : Option Holder) → rest_of events x ≡ g → option_map (λ h. moved h event) g ≡ Some k
         → (IsLeft events (vertex_of event) x × (k ≡ holder_of event)) ⊎ ((rest_of events x ≡ Some k) × (goes_with k (vertex_of event) ≡ false))
-    on None rest f = absurd (none_some k f)
-    on (Some h) rest f = elim (bool_cases (goes_with h (vertex_of event)))
+    on None rest f = absurd (none-some k f)
+    on (Some h) rest f = elim (cases_Bool (goes_with h (vertex_of event)))
         as (λ _. (IsLeft events (vertex_of event) x × (k ≡ holder_of event)) ⊎ ((rest_of events x ≡ Some k) × (goes_with k (vertex_of event) ≡ false))) [
-          | inl goes ↦ inl (inr (h, (rest, goes)), sym (some_is (holder_of event) k (ap (λ b. Some (cond b (holder_of event) h)) (sym goes) ∙ f)))
+          | inl goes ↦ inl (inr (h, (rest, goes)), sym (same_Some (holder_of event) k (ap (λ b. Some (cond b (holder_of event) h)) (sym goes) ∙ f)))
           | inr stays ↦
-              let same : h ≡ k = some_is h k (ap (λ b. Some (cond b (holder_of event) h)) (sym stays) ∙ f) in
+              let same : h ≡ k = same_Some h k (ap (λ b. Some (cond b (holder_of event) h)) (sym stays) ∙ f) in
               inr (rest ∙ ap (λ y. Some y) same, subst (λ y. goes_with y (vertex_of event) ≡ false) same stays)
         ]
 
@@ -189,7 +186,7 @@ module _ (events : List Event) (event : Event) (x : ℤ) where
         → (IsLeft events (vertex_of event) x × (k ≡ holder_of event)) ⊎ ((rest_of events x ≡ Some k) × (goes_with k (vertex_of event) ≡ false))
     by (inl same) =
         let now = sym (ap (λ b. cond b (Some (holder_of event)) (option_map (λ h. moved h event) (rest_of events x))) (eq-int_eq x (vertex_of event) same)) ∙ (sym rest_push ∙ e) in
-        inl (inl same, sym (some_is (holder_of event) k now))
+        inl (inl same, sym (same_Some (holder_of event) k now))
     by (inr differs) =
         on (rest_of events x) refl
         (sym (ap (λ b. cond b (Some (holder_of event)) (option_map (λ h. moved h event) (rest_of events x))) (ne-int_eq x (vertex_of event) differs)) ∙ (sym rest_push ∙ e))
@@ -206,19 +203,12 @@ same_at z y e = cc
 same_over : (a b : Span) → Over a ≡ Over b → a ≡ b
 same_over a b e = cc
 
-or-none : (a b : Bool) → a ≡ false → b ≡ false → (a || b) ≡ false
-or-none a b e f = ap (λ x. x || b) e ∙ f
-
-or-neither : (a b : Bool) → (a || b) ≡ false → (a ≡ false) × (b ≡ false)
-or-neither true b e = absurd (let f = e in cc)
-or-neither false b e = (refl, e)
-
 -- a shortcut with other ends doesn't go with v
 span_stays : (t : Tag) (v : ℤ) → HasEnds t → t.from ≢ v → t.to ≢ v → goes_with (Over t.span) v ≡ false
 span_stays t v (inl ends) from to =
-    or-none (int_eq t.span.low v) (int_eq t.span.high v) (ne-int_eq t.span.low v (λ e. from (ends.0 ∙ e))) (ne-int_eq t.span.high v (λ e. to (ends.1 ∙ e)))
+    or_from (int_eq t.span.low v) (int_eq t.span.high v) (ne-int_eq t.span.low v (λ e. from (ends.0 ∙ e))) (ne-int_eq t.span.high v (λ e. to (ends.1 ∙ e)))
 span_stays t v (inr ends) from to =
-    or-none (int_eq t.span.low v) (int_eq t.span.high v) (ne-int_eq t.span.low v (λ e. to (ends.1 ∙ e))) (ne-int_eq t.span.high v (λ e. from (ends.0 ∙ e)))
+    or_from (int_eq t.span.low v) (int_eq t.span.high v) (ne-int_eq t.span.low v (λ e. to (ends.1 ∙ e))) (ne-int_eq t.span.high v (λ e. from (ends.0 ∙ e)))
 
 module _ (directed : Bool) (given : List (LinkOf ℤ)) (are_given : AreGiven given) (events : List Event) (S : State) (event : Event) (sound : IsSound directed given S)
     (holding : IsHolding directed given events S) (of : IsEventOf S.links event) where
@@ -227,20 +217,22 @@ module _ (directed : Bool) (given : List (LinkOf ℤ)) (are_given : AreGiven giv
 
   -- what rests somewhere isn't v
   not_v : (x : ℤ) (h : Holder) → rest_of events x ≡ Some h → x ≢ vertex_of event
-  not_v x h rest same = none_some h (sym (holding.standing (vertex_of event) v_stands) ∙ (ap (rest_of events) (sym same) ∙ rest))
+  not_v x h rest same = none-some h (sym (holding.standing (vertex_of event) v_stands) ∙ (ap (rest_of events) (sym same) ∙ rest))
 
   stays_put : (z x : ℤ) → z ≢ vertex_of event → rest_of events x ≡ Some (At z) → rest_of (events ++ event ∷ []) x ≡ Some (At z)
   stays_put z x differs rest = rest_kept events event x (At z) (not_v x (At z) rest) rest (ne-int_eq z (vertex_of event) differs)
 
 -- what vertices hold after a dead end
-folded_at : (directed : Bool) (given : List (LinkOf ℤ)) → AreGiven given → (events : List Event) (S : State) (folded : Folded) → IsSound directed given S → IsHolding directed given events S
+folded_at : (directed : Bool) (given : List (LinkOf ℤ)) → AreGiven given → (events : List Event) (S : State) (folded : Folded) → IsSound directed given S
+    → IsHolding directed given events S
     → IsEventOf S.links (End folded) → (z x : ℤ) → Contains S.vertices z → z ≢ folded.vertex
     → Contains ((after directed S (End folded)).inside z) x ↔ (rest_of (events ++ End folded ∷ []) x ≡ Some (At z))
 folded_at directed given are_given events S folded sound holding of z x stands differs = by (same_id z folded.into) where
   v_in : Contains S.vertices folded.vertex
   v_in = v_stands directed given are_given events S (End folded) sound holding of
 
-  by : (z ≡ folded.into) ⊎ (z ≢ folded.into) → Contains (cond (int_eq z folded.into) (S.inside z ++ left_of S folded.vertex) (S.inside z)) x ↔ (rest_of (events ++ End folded ∷ []) x ≡ Some (At z))
+  by : (z ≡ folded.into) ⊎ (z ≢ folded.into) → Contains (cond (int_eq z folded.into) (S.inside z ++ left_of S folded.vertex) (S.inside z)) x ↔
+      (rest_of (events ++ End folded ∷ []) x ≡ Some (At z))
   by (inl same) =
       let is = ap (λ b. cond b (S.inside z ++ left_of S folded.vertex) (S.inside z)) (eq-int_eq z folded.into same) in (
         (λ h. elim (Contains-append_cases (S.inside z) (left_of S folded.vertex) x (subst (λ l. Contains l x) is h)) as (λ _. rest_of (events ++ End folded ∷ []) x ≡ Some (At z)) [
@@ -262,7 +254,8 @@ folded_at directed given are_given events S folded sound holding of z x stands d
       )
 
 -- and after a linear vertex
-passed_at : (directed : Bool) (given : List (LinkOf ℤ)) → AreGiven given → (events : List Event) (S : State) (passed : Bypassed) → IsSound directed given S → IsHolding directed given events S
+passed_at : (directed : Bool) (given : List (LinkOf ℤ)) → AreGiven given → (events : List Event) (S : State) (passed : Bypassed) → IsSound directed given S
+    → IsHolding directed given events S
     → IsEventOf S.links (Pass passed) → (z x : ℤ) → Contains S.vertices z → z ≢ passed.vertex → Contains (S.inside z) x ↔ (rest_of (events ++ Pass passed ∷ []) x ≡ Some (At z))
 passed_at directed given are_given events S passed sound holding of z x stands differs = (
   (λ h. stays_put directed given are_given events S (Pass passed) sound holding of z x differs ((holding.at z x stands).0 h)),
@@ -273,7 +266,8 @@ passed_at directed given are_given events S passed sound holding of z x stands d
 )
 
 -- an old shortcut whose ends stand holds what it held
-old_over : (directed : Bool) (given : List (LinkOf ℤ)) → AreGiven given → (events : List Event) (S : State) (event : Event) → IsSound directed given S → IsHolding directed given events S
+old_over : (directed : Bool) (given : List (LinkOf ℤ)) → AreGiven given → (events : List Event) (S : State) (event : Event) → IsSound directed given S
+    → IsHolding directed given events S
     → IsEventOf S.links event → (n : ℕ) (m : Made) (t : Tag) → HasTag S.made (tags_of directed events) n m t → Contains S.vertices t.from → Contains S.vertices t.to
     → t.from ≢ vertex_of event → t.to ≢ vertex_of event → (x : ℤ) → Contains m.inside x ↔ (rest_of (events ++ event ∷ []) x ≡ Some (Over t.span))
 old_over directed given are_given events S event sound holding of n m t tagged from to from_v to_v x = (
@@ -294,8 +288,10 @@ old_over directed given are_given events S event sound holding of n m t tagged f
         holding.spent n t tagged.tag_at (subst (Contains S.vertices) vertex (v_stands directed given are_given events S (Pass passed) sound holding is))
 
 -- a new shortcut holds what is left of the vertex
-new_over : (directed : Bool) (given : List (LinkOf ℤ)) → AreGiven given → (events : List Event) (S : State) (passed : Bypassed) → IsSound directed given S → IsHolding directed given events S
-    → IsEventOf S.links (Pass passed) → (span : Span) → span ≡ span_of passed → (x : ℤ) → Contains (left_of S passed.vertex) x ↔ (rest_of (events ++ Pass passed ∷ []) x ≡ Some (Over span))
+new_over : (directed : Bool) (given : List (LinkOf ℤ)) → AreGiven given → (events : List Event) (S : State) (passed : Bypassed) → IsSound directed given S
+    → IsHolding directed given events S
+    → IsEventOf S.links (Pass passed) → (span : Span) → span ≡ span_of passed → (x : ℤ) → Contains (left_of S passed.vertex) x ↔
+    (rest_of (events ++ Pass passed ∷ []) x ≡ Some (Over span))
 new_over directed given are_given events S passed sound holding of span is x = (
   (λ h. rest_left events (Pass passed) x (left_goes directed given are_given events S sound holding passed.vertex v_in x h) ∙ ap (λ s. Some (Over s)) (sym is)),
   (λ rest. elim (rest_back events (Pass passed) x (Over span) rest) as (λ _. Contains (left_of S passed.vertex) x) [
@@ -312,10 +308,6 @@ new_over directed given are_given events S passed sound holding of span is x = (
         let vertex : passed.vertex ≡ t.span.vertex = ap (λ (s : Span). s.vertex) (sym (same ∙ is)) in
         holding.spent n t at (subst (Contains S.vertices) vertex v_in)
 
--- what stands after an event stood before it, and differs from its vertex
-left_standing : (directed : Bool) (S : State) (event : Event) (x : ℤ) → Contains (after directed S event).vertices x → Contains S.vertices x × (x ≢ vertex_of event)
-left_standing directed S event x h = vertices_after directed S event x h
-
 still_standing : (directed : Bool) (S : State) (event : Event) (x : ℤ) → Contains S.vertices x → x ≢ vertex_of event → Contains (after directed S event).vertices x
 still_standing directed S (End folded) x h differs = without_vertex-keeps folded.vertex S.vertices x h differs
 still_standing directed S (Pass passed) x h differs = without_vertex-keeps passed.vertex S.vertices x h differs
@@ -328,11 +320,11 @@ module _ (directed : Bool) (given : List (LinkOf ℤ)) (are_given : AreGiven giv
   none_after : (x : ℤ) → Contains (ends_of given) x → rest_of (events ++ event ∷ []) x ≡ None → Contains (after directed S event).vertices x
   none_after x is_end none = by (same_id x (vertex_of event)) (rest_of events x) refl where
     by : (x ≡ vertex_of event) ⊎ (x ≢ vertex_of event) → (g : Option Holder) → rest_of events x ≡ g → Contains (after directed S event).vertices x
-    by (inl same) g e = absurd (none_some (holder_of event) (sym none ∙ rest_left events event x (inl same)))
+    by (inl same) g e = absurd (none-some (holder_of event) (sym none ∙ rest_left events event x (inl same)))
     by (inr differs) None e = still_standing directed S event x (holding.none_stands x is_end e) differs
-    by (inr differs) (Some h) e = elim (bool_cases (goes_with h (vertex_of event))) as (λ _. Contains (after directed S event).vertices x) [
-      | inl goes ↦ absurd (none_some (holder_of event) (sym none ∙ rest_left events event x (inr (h, (e, goes)))))
-      | inr stays ↦ absurd (none_some h (sym none ∙ rest_kept events event x h differs e stays))
+    by (inr differs) (Some h) e = elim (cases_Bool (goes_with h (vertex_of event))) as (λ _. Contains (after directed S event).vertices x) [
+      | inl goes ↦ absurd (none-some (holder_of event) (sym none ∙ rest_left events event x (inr (h, (e, goes)))))
+      | inr stays ↦ absurd (none-some h (sym none ∙ rest_kept events event x h differs e stays))
     ]
 
   ended_after : (x : ℤ) (h : Holder) → rest_of (events ++ event ∷ []) x ≡ Some h → Contains (ends_of given) x
@@ -403,7 +395,8 @@ module _ (directed : Bool) (given : List (LinkOf ℤ)) (are_given : AreGiven giv
         | inr new ↦ ends_of_new (new_tag directed event new.0 t new.1.1)
       ]
     where
-      ends_of_new : (passed : Bypassed) × ((event ≡ Pass passed) × ((t.span ≡ span_of passed) × (((t.from ≡ passed.low) × (t.to ≡ passed.high)) ⊎ ((t.from ≡ passed.high) × (t.to ≡ passed.low)))))
+      ends_of_new : (passed : Bypassed)
+          × ((event ≡ Pass passed) × ((t.span ≡ span_of passed) × (((t.from ≡ passed.low) × (t.to ≡ passed.high)) ⊎ ((t.from ≡ passed.high) × (t.to ≡ passed.low)))))
           → HasEnds t
       ends_of_new (passed, (is, (span, either))) =
           let low : t.span.low ≡ passed.low = ap (λ (s : Span). s.low) span in
@@ -440,7 +433,8 @@ module _ (directed : Bool) (given : List (LinkOf ℤ)) (are_given : AreGiven giv
           (
             t,
             (
-              subst (λ ts. slice_get ts (length (tags_of directed events) + 0) ≡ Some t) (sym (tags-push directed events event)) (get_second (tags_of directed events) (tags_at directed event) 0 t at),
+              subst (λ ts. slice_get ts (length (tags_of directed events) + 0) ≡ Some t) (sym (tags-push directed events event))
+                  (get_second (tags_of directed events) (tags_at directed event) 0 t at),
               (
                 spans,
                 elim either as (λ _. Contains (after directed S event).vertices t.from × Contains (after directed S event).vertices t.to) [
@@ -458,8 +452,9 @@ module _ (directed : Bool) (given : List (LinkOf ℤ)) (are_given : AreGiven giv
     by (inl left) = fresh event refl left.1
     by (inr (old, stays)) =
         let (n, (t, (at, (is, (from, to))))) = holding.over_stands x span old in
-        let (low, high) = or-neither (int_eq span.low (vertex_of event)) (int_eq span.high (vertex_of event)) stays in
-        let apart : (t.from ≢ vertex_of event) × (t.to ≢ vertex_of event) = ends_apart t is (holding.ends n t at) (int_eq-false span.low (vertex_of event) low) (int_eq-false span.high (vertex_of event) high) in (
+        let (low, high) = or_parts (int_eq span.low (vertex_of event)) (int_eq span.high (vertex_of event)) stays in
+        let apart : (t.from ≢ vertex_of event) × (t.to ≢ vertex_of event) = ends_apart t is (holding.ends n t at) (int_eq-false span.low (vertex_of event) low)
+        (int_eq-false span.high (vertex_of event) high) in (
           n,
           (
             t,
@@ -481,7 +476,8 @@ pass_end : (p : Bypassed) (f : Folded) → Pass p ≡ End f → ⊥
 pass_end p f is = cc
 
 -- a step leaves it so: after a dead end
-folded_holding : (directed : Bool) (given : List (LinkOf ℤ)) → AreGiven given → (events : List Event) (S : State) (folded : Folded) → IsSound directed given S → IsHolding directed given events S
+folded_holding : (directed : Bool) (given : List (LinkOf ℤ)) → AreGiven given → (events : List Event) (S : State) (folded : Folded) → IsSound directed given S
+    → IsHolding directed given events S
     → IsEventOf S.links (End folded) → IsHolding directed given (events ++ End folded ∷ []) (after directed S (End folded))
 folded_holding directed given are_given events S folded sound holding of =
     let e = End folded in
@@ -493,7 +489,8 @@ folded_holding directed given are_given events S folded sound holding of =
       ended = ended_after directed given are_given events S e sound holding of;
       tag_ends = tag_ends_after directed given are_given events S e sound holding of (λ passed is. absurd (end_pass folded passed is));
       one_span = one_span_after directed given are_given events S e sound holding of;
-      at_stands = at_stands_after directed given are_given events S e sound holding of (λ f is. subst (λ (g : Folded). Contains (after directed S e).vertices g.into) (same_end folded f is)
+      at_stands = at_stands_after directed given are_given events S e sound holding of
+          (λ f is. subst (λ (g : Folded). Contains (after directed S e).vertices g.into) (same_end folded f is)
           (without_vertex-keeps folded.vertex S.vertices folded.into (neighbour_stands directed given S folded.vertex folded.into sound of.neighbour) of.neighbour.0));
       tags = subst (λ ts. AllZip IsTagged S.made ts) (sym same) holding.tags;
       ends = ends_after directed given are_given events S e sound holding of;
@@ -503,14 +500,16 @@ folded_holding directed given are_given events S folded sound holding of =
           let (to_stood, to_v) = vertices_after directed S e t.to to in
           old_over directed given are_given events S e sound holding of n m t
           (record { made_at = tagged.made_at; tag_at = subst (λ ts. slice_get ts n ≡ Some t) same tagged.tag_at; tagged = tagged.tagged }) from_stood to_stood from_v to_v x;
-      over_stands = over_stands_after directed given are_given events S e sound holding of (λ passed is. absurd (end_pass folded passed is)) (λ passed is. absurd (end_pass folded passed is));
+      over_stands = over_stands_after directed given are_given events S e sound holding of (λ passed is. absurd (end_pass folded passed is))
+          (λ passed is. absurd (end_pass folded passed is));
     }
   where
     end_pass : (f : Folded) (p : Bypassed) → End f ≡ Pass p → ⊥
     end_pass f p is = cc
 
 -- and after a linear vertex
-passed_holding : (directed : Bool) (given : List (LinkOf ℤ)) → AreGiven given → (events : List Event) (S : State) (passed : Bypassed) → IsSound directed given S → IsHolding directed given events S
+passed_holding : (directed : Bool) (given : List (LinkOf ℤ)) → AreGiven given → (events : List Event) (S : State) (passed : Bypassed) → IsSound directed given S
+    → IsHolding directed given events S
     → IsEventOf S.links (Pass passed) → IsHolding directed given (events ++ Pass passed ∷ []) (after directed S (Pass passed))
 passed_holding directed given are_given events S passed sound holding of =
     let e = Pass passed in
@@ -534,7 +533,8 @@ passed_holding directed given are_given events S passed sound holding of =
       over_stands = over_stands_after directed given are_given events S e sound holding of
           (λ p is. first_tag directed passed passed.there passed.back refl refl of.some
           (λ undirected. same_both_ways S.links passed.low passed.vertex passed.high passed.there passed.back (sound.opposites undirected) of.there_is of.back_is))
-          (λ p is. subst (λ (q : Bypassed). Contains (after directed S e).vertices q.low × Contains (after directed S e).vertices q.high) (same_pass passed p is) (low_stands, high_stands));
+          (λ p is. subst (λ (q : Bypassed). Contains (after directed S e).vertices q.low × Contains (after directed S e).vertices q.high) (same_pass passed p is)
+          (low_stands, high_stands));
     }
   where
     low_stands : Contains (after directed S (Pass passed)).vertices passed.low
@@ -553,7 +553,8 @@ passed_holding directed given are_given events S passed sound holding of =
     lengths = zip_length IsTagged S.made (tags_of directed events) holding.tags
 
     over_by : (n : ℕ) (m : Made) (t : Tag)
-        → HasTag (S.made ++ shortcuts_between directed passed.low passed.high passed.there passed.back (left_of S passed.vertex)) (tags_of directed (events ++ Pass passed ∷ [])) n m t
+        → HasTag (S.made ++ shortcuts_between directed passed.low passed.high passed.there passed.back (left_of S passed.vertex)) (tags_of directed (events ++ Pass passed ∷ []))
+        n m t
         → Contains S.vertices t.from × (t.from ≢ passed.vertex) → Contains S.vertices t.to × (t.to ≢ passed.vertex) → (x : ℤ)
         → (slice_get S.made n ≡ Some m)
         ⊎ ((k : ℕ) × ((n ≡ length S.made + k) × (slice_get (shortcuts_between directed passed.low passed.high passed.there passed.back (left_of S passed.vertex)) k ≡ Some m)))
@@ -572,7 +573,8 @@ passed_holding directed given are_given events S passed sound holding of =
         ((λ h. both.0 (subst (λ l. Contains l x) inside h)), (λ rest. subst (λ l. Contains l x) (sym inside) (both.1 rest)))
 
 -- after each event
-pub holding_after : (directed : Bool) (given : List (LinkOf ℤ)) → AreGiven given → (events : List Event) (S : State) (event : Event) → IsSound directed given S → IsHolding directed given events S
+pub holding_after : (directed : Bool) (given : List (LinkOf ℤ)) → AreGiven given → (events : List Event) (S : State) (event : Event) → IsSound directed given S
+    → IsHolding directed given events S
     → IsEventOf S.links event → IsHolding directed given (events ++ event ∷ []) (after directed S event)
 holding_after directed given are_given events S (End folded) sound holding of = folded_holding directed given are_given events S folded sound holding of
 holding_after directed given are_given events S (Pass passed) sound holding of = passed_holding directed given are_given events S passed sound holding of
@@ -582,16 +584,16 @@ pub first_holding : (directed : Bool) (given : List (LinkOf ℤ)) → IsHolding 
 first_holding directed given = record {
   standing = λ x h. refl;
   none_stands = λ x h e. h;
-  at = λ z x stands. ((λ h. absurd (Contains-none x h)), (λ e. absurd (none_some (At z) e)));
-  ended = λ x h e. absurd (none_some h e);
+  at = λ z x stands. ((λ h. absurd (Contains-none x h)), (λ e. absurd (none-some (At z) e)));
+  ended = λ x h e. absurd (none-some h e);
   tag_ends = λ n t e. absurd (let f = e in cc);
   one_span = λ n k t s e. absurd (let f = e in cc);
-  at_stands = λ x z e. absurd (none_some (At z) e);
+  at_stands = λ x z e. absurd (none-some (At z) e);
   tags = tt;
   ends = λ n t e. absurd (let f = e in cc);
   spent = λ n t e. absurd (let f = e in cc);
   over = λ n m t tagged. absurd (let f = tagged.made_at in cc);
-  over_stands = λ x span e. absurd (none_some (Over span) e);
+  over_stands = λ x span e. absurd (none-some (Over span) e);
 }
 
 -- after a log

@@ -3,11 +3,11 @@ use Rattle.std.proofs.Common.{◌≡◌, ◌≢◌, ◌⊎◌, inl, inr, ℕ, �
 use Rattle.std.specs.List.{Contains}
 use Rattle.std.specs.Ordering.{int_eq}
 use Rattle.std.proofs.lemmas.Bool.{cases_lt}
+use Rattle.pgr_outside.proofs.Lists.{Contains-here, Contains-later, Contains-cons_cases, Contains-none}
 use Rattle.pgr_walks.specs.declared.link.LinkOf.{LinkOf}
 use Rattle.pgr_contract.specs.State.{touches, without_links_at}
 use Rattle.pgr_contract.specs.Steps.{Leads, IsLeastLink, IsWayCost}
 use Rattle.pgr_contract.specs.Ways.{lesser, cost_sum, is_pair, least_link}
-use Rattle.pgr_contract.proofs.Lists.{Contains-here, Contains-later, Contains-cons_cases, Contains-none}
 use Rattle.pgr_contract.proofs.Ids.{same_id, eq-int_eq, ne-int_eq, touches-false, touches-true}
 
 -- the pair is this one, or the test says that it isn't
@@ -85,7 +85,8 @@ module _ (Has One Two : LinkOf ℤ → Type 0) (each : (link : LinkOf ℤ) → H
 -- the least cost over one link
 single_is : (link : LinkOf ℤ) (a b : ℤ) → IsLeastOr (λ other. other ≡ link) a b (cond (is_pair link.from link.to a b) (Some link.cost) None)
 single_is link a b = by (pair_cases link.from link.to a b) where
-  by : ((link.from ≡ a) × (link.to ≡ b)) ⊎ ((link.from ≡ a) × (link.to ≡ b) → ⊥) → IsLeastOr (λ other. other ≡ link) a b (cond (is_pair link.from link.to a b) (Some link.cost) None)
+  by : ((link.from ≡ a) × (link.to ≡ b)) ⊎ ((link.from ≡ a) × (link.to ≡ b) → ⊥) → IsLeastOr (λ other. other ≡ link) a b
+      (cond (is_pair link.from link.to a b) (Some link.cost) None)
   by (inl both) = subst (λ x. IsLeastOr (λ other. other ≡ link) a b (cond x (Some link.cost) None)) (sym (pair-hit link.from link.to a b both.0 both.1)) (record {
     link = link;
     has = refl;
@@ -138,7 +139,8 @@ skipped link more a b differ = ap (λ x. lesser (cond x (Some link.cost) None) (
 pub least_link-without : (v : ℤ) (links : List (LinkOf ℤ)) (a b : ℤ) → a ≢ v → b ≢ v → least_link (without_links_at v links) a b ≡ least_link links a b
 least_link-without v [] a b a_v b_v = refl
 least_link-without v (link ∷ more) a b a_v b_v = by (touches v link) refl (least_link-without v more a b a_v b_v) where
-  by : (t : Bool) → touches v link ≡ t → least_link (without_links_at v more) a b ≡ least_link more a b → least_link (without_links_at v (link ∷ more)) a b ≡ least_link (link ∷ more) a b
+  by : (t : Bool) → touches v link ≡ t → least_link (without_links_at v more) a b ≡ least_link more a b
+      → least_link (without_links_at v (link ∷ more)) a b ≡ least_link (link ∷ more) a b
   by true e rest =
       let gone : without_links_at v (link ∷ more) ≡ without_links_at v more = ap (λ t. cond (not t) (link ∷ without_links_at v more) (without_links_at v more)) e in
       let differ : (link.from ≡ a) × (link.to ≡ b) → ⊥ = λ both. elim (touches-true v link e) as (λ _. ⊥) [ inl from ↦ a_v (sym both.0 ∙ from) | inr to ↦ b_v (sym both.1 ∙ to) ] in

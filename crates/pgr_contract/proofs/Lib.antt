@@ -1,4 +1,3 @@
-pub mod Lists
 pub mod Bypass
 pub mod Ids
 pub mod MadeLinks

@@ -1,10 +1,10 @@
 -- The links of shortcuts.
 use Rattle.std.proofs.Common.{◌≡◌, ◌⊎◌, inl, inr, ℕ, zero, suc, ◌+◌, ℤ, Bool, true, false, List, [], ◌∷◌, Some, refl, sym, subst, ◌∙◌, ap, arith}
 use Rattle.std.specs.List.{Contains, slice_get}
+use Rattle.pgr_outside.proofs.Lists.{Contains-here, Contains-later, Contains-cons_cases, Contains-none}
 use Rattle.pgr_walks.specs.declared.link.LinkOf.{LinkOf}
 use Rattle.pgr_walks.specs.Reaches.{turned}
 use Rattle.pgr_contract.specs.State.{Made, link_of_made, links_of_made}
-use Rattle.pgr_contract.proofs.Lists.{Contains-here, Contains-later, Contains-cons_cases, Contains-none}
 
 -- the link is that of a shortcut, or in the undirected graph that turned
 pub record IsMade (directed : Bool) (first : ℕ) (made : List Made) (link : LinkOf ℤ) : Type 0 where
@@ -47,7 +47,8 @@ IsMade-from true n (m ∷ more) link h = by (Contains-cons_cases (link_of_made n
 IsMade-from false n (m ∷ more) link h =
     by (Contains-cons_cases (link_of_made n m) (turned (link_of_made n m) ∷ links_of_made false (suc n) more) link h) (λ rest. IsMade-from false (suc n) more link rest)
   where
-    on_by : (turned (link_of_made n m) ≡ link) ⊎ Contains (links_of_made false (suc n) more) link → (Contains (links_of_made false (suc n) more) link → IsMade false (suc n) more link)
+    on_by : (turned (link_of_made n m) ≡ link) ⊎ Contains (links_of_made false (suc n) more) link
+        → (Contains (links_of_made false (suc n) more) link → IsMade false (suc n) more link)
         → IsMade false n (m ∷ more) link
     on_by (inl second) on = here false n m more link (inr (refl, sym second))
     on_by (inr rest) on = later false n m more link (on rest)

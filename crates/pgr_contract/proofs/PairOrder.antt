@@ -8,7 +8,7 @@ use Rattle.std.specs.declared.ops.Bound.{Bound}
 use Rattle.std.specs.declared.ops.Bound.TheVariants.{Included, Excluded, Unbounded}
 use Rattle.std.specs.BTreeMap.{BTreeMap, get}
 use Rattle.std.specs.BTreeMap.Range.{IsRangeOf, IsFromStart, IsLeBy, IsLtBy}
-use Rattle.std.proofs.lemmas.Cmp.{int_ranked}
+use Rattle.std.proofs.lemmas.Cmp.{int_ranked, tied_itself, int_cmp_total}
 use Rattle.std.proofs.lemmas.Int.{ints}
 use Rattle.pgr_walks.specs.Graph.{greatest}
 use Rattle.pgr_contract.specs.Ways.{pair_cmp, at_pair, is_pair, kept_cost, lesser, lowered, forgotten, AreLow, IsNear}
@@ -88,22 +88,15 @@ lt_pair a b c d h = by (int_cmp a c) refl h where
   by Equal e f = inr (int_ranked a c Equal (sym e), int_ranked b d Less (sym f))
   by Greater e f = absurd (let g = f in cc)
 
-cmp_same : (a : ℤ) → int_cmp a a ≡ Equal
-cmp_same a = by (int_cmp a a) refl where
-  by : (o : Ordering) → int_cmp a a ≡ o → int_cmp a a ≡ Equal
-  by Less e = let less : a <ℤ a = int_ranked a a Less (sym e) in absurd (omega (arith, ints))
-  by Equal e = e
-  by Greater e = let less : a <ℤ a = int_ranked a a Greater (sym e) in absurd (omega (arith, ints))
-
 pair_le : (a b d : ℤ) → b ≤ℤ d → IsLeBy pair_cmp (a, b) (a, d)
-pair_le a b d le = ap (λ o. is_gt (ordering_then o (int_cmp b d))) (cmp_same a) ∙ by (int_cmp b d) refl where
+pair_le a b d le = ap (λ o. is_gt (ordering_then o (int_cmp b d))) (tied_itself int_cmp_total a) ∙ by (int_cmp b d) refl where
   by : (o : Ordering) → int_cmp b d ≡ o → is_gt (int_cmp b d) ≡ false
   by Less e = ap is_gt e
   by Equal e = ap is_gt e
   by Greater e = let less : d <ℤ b = int_ranked b d Greater (sym e) in absurd (omega (arith, ints))
 
 pair_lt : (a b d : ℤ) → b <ℤ d → IsLtBy pair_cmp (a, b) (a, d)
-pair_lt a b d less = ap (λ o. ordering_then o (int_cmp b d)) (cmp_same a) ∙ by (int_cmp b d) refl where
+pair_lt a b d less = ap (λ o. ordering_then o (int_cmp b d)) (tied_itself int_cmp_total a) ∙ by (int_cmp b d) refl where
   by : (o : Ordering) → int_cmp b d ≡ o → int_cmp b d ≡ Less
   by Less e = e
   by Equal e = let same : b ≡ d = int_ranked b d Equal (sym e) in absurd (omega (arith, ints))

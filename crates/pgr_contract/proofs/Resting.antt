@@ -1,9 +1,9 @@
 -- Where things rest, found from the last event to the first, is where they come by the events in turn.
-use Rattle.std.proofs.Common.{◌≡◌, ◌≢◌, ◌⊎◌, inl, inr, ℕ, suc, ◌≤◌, ◌<◌, ℤ, Bool, true, false, ◌||◌, cond, List, [], ◌∷◌, Option, Some, None, refl, sym, subst, ◌∙◌, ap, arith}
+use Rattle.std.proofs.Common.{◌≡◌, ◌≢◌, ◌⊎◌, inl, inr, ℕ, suc, ◌≤◌, ◌<◌, ℤ, Bool, true, false, cond, List, [], ◌∷◌, Option, Some, None, refl, sym, subst, ◌∙◌, ap, arith}
 use Rattle.std.specs.Prelude.{fold}
 use Rattle.std.specs.List.{Contains}
 use Rattle.std.specs.Option.{option_map}
-use Rattle.std.proofs.lemmas.Bool.{le-leb, lt-leb}
+use Rattle.std.proofs.lemmas.Bool.{le-leb, lt-leb, or_left, or_right, or_from}
 use Rattle.std.specs.Ordering.{int_eq}
 use Rattle.pgr_walks.specs.declared.link.LinkOf.{LinkOf}
 use Rattle.pgr_contract.specs.declared.event.Event.{Event}
@@ -56,16 +56,6 @@ goes h event e = ap (λ b. cond b (holder_of event) h) e
 remains : (h : Holder) (event : Event) → goes_with h (vertex_of event) ≡ false → moved h event ≡ h
 remains h event e = ap (λ b. cond b (holder_of event) h) e
 
-or-first : (a b : Bool) → a ≡ true → (a || b) ≡ true
-or-first a b e = ap (λ x. x || b) e
-
-or-second : (a b : Bool) → b ≡ true → (a || b) ≡ true
-or-second true b e = refl
-or-second false b e = e
-
-or-none : (a b : Bool) → a ≡ false → b ≡ false → (a || b) ≡ false
-or-none a b e f = ap (λ x. x || b) e ∙ f
-
 -- the end of a holder's way is found from the last event to the first
 pub settled_is : (n : ℕ) (events : List Event) (h : Holder) → settled events h ≡ resolved (gone_from n events) h
 settled_is n [] (At z) = refl
@@ -87,26 +77,27 @@ settled_is n (event ∷ more) (Over span) =
         → settled more (holder_of event) ≡ resolved (gone_from (suc n) more) (holder_of event)
         → settled more (Over span) ≡ resolved (gone_from (suc n) more) (Over span) → settled (event ∷ more) (Over span) ≡ resolved (gone_from n (event ∷ more)) (Over span)
     by (inl low) (inl high) first rest =
-        ap (settled more) (goes (Over span) event (or-first (int_eq span.low (vertex_of event)) (int_eq span.high (vertex_of event)) (eq-int_eq span.low (vertex_of event) low)))
+        ap (settled more) (goes (Over span) event (or_left (int_eq span.low (vertex_of event)) (int_eq span.high (vertex_of event)) (eq-int_eq span.low (vertex_of event) low)))
         ∙ (first ∙ sym (ap (λ g. earlier (Over span) g (gone_from n (event ∷ more) span.high)) (gone-first n event more span.low low)
         ∙ (ap (λ g. earlier (Over span) (Some (record { place = n; holder = resolved (gone_from (suc n) more) (holder_of event) })) g) (gone-first n event more span.high high)
         ∙ earlier-first (Over span) (record { place = n; holder = resolved (gone_from (suc n) more) (holder_of event) })
         (Some (record { place = n; holder = resolved (gone_from (suc n) more) (holder_of event) }))
-        (λ o e. let same : record { place = n; holder = resolved (gone_from (suc n) more) (holder_of event) } ≡ o = cc in let p : n ≡ o.place = ap (λ (g : Gone). g.place) same in omega arith))))
+        (λ o e. let same : record { place = n; holder = resolved (gone_from (suc n) more) (holder_of event) } ≡ o = cc in let p : n ≡ o.place = ap (λ (g : Gone). g.place) same in
+        omega arith))))
     by (inl low) (inr high) first rest =
-        ap (settled more) (goes (Over span) event (or-first (int_eq span.low (vertex_of event)) (int_eq span.high (vertex_of event)) (eq-int_eq span.low (vertex_of event) low)))
+        ap (settled more) (goes (Over span) event (or_left (int_eq span.low (vertex_of event)) (int_eq span.high (vertex_of event)) (eq-int_eq span.low (vertex_of event) low)))
         ∙ (first ∙ sym (ap (λ g. earlier (Over span) g (gone_from n (event ∷ more) span.high)) (gone-first n event more span.low low)
         ∙ (ap (λ g. earlier (Over span) (Some (record { place = n; holder = resolved (gone_from (suc n) more) (holder_of event) })) g) (gone-later n event more span.high high)
         ∙ earlier-first (Over span) (record { place = n; holder = resolved (gone_from (suc n) more) (holder_of event) }) (gone_from (suc n) more span.high)
         (λ o e. let p = after_now span.high o e in omega (arith, p)))))
     by (inr low) (inl high) first rest =
-        ap (settled more) (goes (Over span) event (or-second (int_eq span.low (vertex_of event)) (int_eq span.high (vertex_of event)) (eq-int_eq span.high (vertex_of event) high)))
+        ap (settled more) (goes (Over span) event (or_right (int_eq span.low (vertex_of event)) (int_eq span.high (vertex_of event)) (eq-int_eq span.high (vertex_of event) high)))
         ∙ (first ∙ sym (ap (λ g. earlier (Over span) g (gone_from n (event ∷ more) span.high)) (gone-later n event more span.low low)
         ∙ (ap (λ g. earlier (Over span) (gone_from (suc n) more span.low) g) (gone-first n event more span.high high)
         ∙ earlier-second (Over span) (gone_from (suc n) more span.low) (record { place = n; holder = resolved (gone_from (suc n) more) (holder_of event) })
         (λ o e. after_now span.low o e))))
     by (inr low) (inr high) first rest =
-        ap (settled more) (remains (Over span) event (or-none (int_eq span.low (vertex_of event)) (int_eq span.high (vertex_of event))
+        ap (settled more) (remains (Over span) event (or_from (int_eq span.low (vertex_of event)) (int_eq span.high (vertex_of event))
         (ne-int_eq span.low (vertex_of event) low) (ne-int_eq span.high (vertex_of event) high)))
         ∙ (rest ∙ sym (ap (λ g. earlier (Over span) g (gone_from n (event ∷ more) span.high)) (gone-later n event more span.low low)
         ∙ ap (λ g. earlier (Over span) (gone_from (suc n) more span.low) g) (gone-later n event more span.high high)))
@@ -115,7 +106,8 @@ settled_is n (event ∷ more) (Over span) =
 log_stands : (directed : Bool) (given : List (LinkOf ℤ)) (S : State) (event : Event) → IsSound directed given S → IsEventOf S.links event → Contains S.vertices (vertex_of event)
 log_stands directed given S event sound of = qualifier_stands directed given (method_of event) S (vertex_of event) sound (event_qualifies S.links event of)
 
-pub after_sound : (directed : Bool) (given : List (LinkOf ℤ)) (S : State) (event : Event) → IsSound directed given S → IsEventOf S.links event → IsSound directed given (after directed S event)
+pub after_sound : (directed : Bool) (given : List (LinkOf ℤ)) (S : State) (event : Event) → IsSound directed given S → IsEventOf S.links event
+    → IsSound directed given (after directed S event)
 after_sound directed given S event sound of = step_sound directed given (method_of event) (vertex_of event) S (after directed S event) sound (event_step directed S event of)
 
 -- where a vertex that is gone rests later on
@@ -135,7 +127,8 @@ rest_is directed given S n [] x sound log = refl
 rest_is directed given S n (event ∷ more) x sound log =
     by (same_id x (vertex_of event)) (rest_is directed given (after directed S event) (suc n) more x (after_sound directed given S event sound log.0) log.1)
   where
-    by : (x ≡ vertex_of event) ⊎ (x ≢ vertex_of event) → rest_of more x ≡ option_map (λ (gone : Gone). gone.holder) (gone_from (suc n) more x) → rest_of (event ∷ more) x ≡ option_map (λ (gone : Gone). gone.holder) (gone_from n (event ∷ more) x)
+    by : (x ≡ vertex_of event) ⊎ (x ≢ vertex_of event) → rest_of more x ≡ option_map (λ (gone : Gone). gone.holder) (gone_from (suc n) more x)
+        → rest_of (event ∷ more) x ≡ option_map (λ (gone : Gone). gone.holder) (gone_from n (event ∷ more) x)
     by (inl same) later =
         ap (λ b. fold (rest_after x) (cond b (Some (holder_of event)) None) more) (eq-int_eq x (vertex_of event) same)
         ∙ (rest_settles directed given (after directed S event) more x (holder_of event) (after_sound directed given S event sound log.0) log.1

@@ -17,7 +17,8 @@ abbrev Avoids : ℤ → ℤ → List (LinkOf ℤ) → Type 0
 Avoids s a walk = (k : ℕ) → slice_get (vertices_of a walk) k ≡ Some s → ⊥
 
 -- such a walk has no link at s
-avoiding : (links : List (LinkOf ℤ)) (s a t : ℤ) (walk : List (LinkOf ℤ)) → Avoids s a walk → IsWalk (Contains links) a walk t → IsWalk (Contains (without_links_at s links)) a walk t
+avoiding : (links : List (LinkOf ℤ)) (s a t : ℤ) (walk : List (LinkOf ℤ)) → Avoids s a walk → IsWalk (Contains links) a walk t
+    → IsWalk (Contains (without_links_at s links)) a walk t
 avoiding links s a t [] avoids w = w
 avoiding links s a t (link ∷ rest) avoids w =
     let from : link.from ≢ s = λ e. avoids 0 (ap (λ x. Some x) (sym w.1 ∙ e)) in

@@ -2,6 +2,7 @@
 use Rattle.std.proofs.Common.{◌≡◌, ◌⊎◌, inl, inr, ℕ, ℤ, Bool, false, List, [], ◌∷◌, ◌++◌, Option, Some, None, refl, sym, subst, ◌∙◌, ap}
 use Rattle.std.specs.Prelude.{fold, ◌↔◌, IsSome}
 use Rattle.std.specs.List.{Contains}
+use Rattle.std.proofs.lemmas.Option.{none-some}
 use Rattle.pgr_walks.specs.declared.link.LinkOf.{LinkOf}
 use Rattle.pgr_words.specs.declared.method.Method.{Method}
 use Rattle.pgr_words.specs.declared.method.Method.TheVariants.{DeadEnd, Linear}
@@ -90,9 +91,6 @@ run_log directed forbidden [] S T same = no_log directed S T same
 run_log directed forbidden (method ∷ methods) S T (R, (phase, rest)) =
     logs_on directed S R T (takes_log directed method forbidden phase.taken S R phase.takes) (run_log directed forbidden methods R T rest)
 
-none_some : {X : Type 0} (x : X) → None ≡ Some x → ⊥
-none_some x e = cc
-
 -- what a state holds decides which vertices are left
 left_or_held : (directed : Bool) (given : List (LinkOf ℤ)) (events : List Event) (S : State) → IsHolding directed given events S → (x : ℤ) → Contains (ends_of given) x
     → Contains S.vertices x ↔ ¬ IsHeldIn S x
@@ -105,7 +103,7 @@ left_or_held directed given events S holding x is_end = (stands_not, not_stands)
       (Over t.span, (holding.over n m t tagged (subst (Contains S.vertices) tagged.tagged.from from) (subst (Contains S.vertices) tagged.tagged.to to) x).0 inside)
 
   stands_not : Contains S.vertices x → ¬ IsHeldIn S x
-  stands_not stands held = let (h, rest) = rests held in none_some h (sym (holding.standing x stands) ∙ rest)
+  stands_not stands held = let (h, rest) = rests held in none-some h (sym (holding.standing x stands) ∙ rest)
 
   held_at : (g : Holder) → rest_of events x ≡ Some g → IsHeldIn S x
   held_at (At z) rest = let stands = holding.at_stands x z rest in inl (z, (stands, (holding.at z x stands).1 rest))

@@ -9,6 +9,8 @@ use Rattle.std.specs.BTreeMap.{BTreeMap, get}
 use Rattle.std.proofs.lemmas.List.Elements.{Contains-append_left, Contains-append_right, Contains-append_cases, recursion_from_All}
 use Rattle.std.proofs.lemmas.List.Kept.{IsStrictlySortedBy-filter}
 use Rattle.std.proofs.lemmas.Map.Keys.{Less-from_sorted}
+use Rattle.std.proofs.lemmas.Bool.{true≢false, and_parts, and_from}
+use Rattle.pgr_outside.proofs.Lists.{Contains-here, Contains-later, Contains-cons_cases, Contains-none, Contains-filter, Contains-from_filter, Contains-flat_map, Contains-from_flat_map, Contains-from_map}
 use Rattle.pgr_walks.specs.declared.link.LinkOf.{LinkOf}
 use Rattle.pgr_walks.specs.Graph.{IsStrictlyRising}
 use Rattle.pgr_walks.specs.Link.{link_cmp}
@@ -27,7 +29,6 @@ use Rattle.pgr_contract.specs.State.{Made, State, ends_of, first_state}
 use Rattle.pgr_contract.specs.Held.{Tag, tags_of, rest_of, gone_from, holds_at, holds_over, rests}
 use Rattle.pgr_contract.specs.Lists.{list_at, resting, stays, tag_stays, kept_with, shown_from, links_shown, link_stays}
 use Rattle.pgr_contract.specs.Shown.{Lists, nodes_of, has_id, surviving, ShowEach, link_of_shortcut, StandsFor, IsShortcutLink, IsShown}
-use Rattle.pgr_contract.proofs.Lists.{Contains-here, Contains-later, Contains-cons_cases, Contains-none, Contains-filter, Contains-from_filter, Contains-flat_map, Contains-from_flat_map}
 use Rattle.pgr_contract.proofs.Ids.{int_eq-true, eq-int_eq}
 use Rattle.pgr_contract.proofs.Sound.{IsSound, first_sound, end_from, end_to}
 use Rattle.pgr_contract.specs.Events.{state_of}
@@ -36,9 +37,6 @@ use Rattle.pgr_contract.proofs.EventSteps.{log_sound}
 use Rattle.pgr_contract.proofs.Resting.{rest_is}
 use Rattle.pgr_contract.proofs.Contents.{IsTagged, HasTag, IsHolding}
 use Rattle.pgr_contract.proofs.Holding.{first_holding, log_holding}
-
-true_not : true ≡ false → ⊥
-true_not e = cc
 
 -- a list that rises still does after a filter
 rising_sorted : (xs : List ℤ) → IsStrictlyRising int_cmp xs → IsStrictlySortedBy int_cmp xs
@@ -54,7 +52,7 @@ rising-filter p xs rise i j d less below = Less-from_sorted int_cmp (filter p xs
 
 -- the id is in the list where the test says
 pub has_id-true : (ids : List ℤ) (x : ℤ) → has_id ids x ≡ true → Contains ids x
-has_id-true [] x e = absurd (true_not (sym e))
+has_id-true [] x e = absurd (true≢false (sym e))
 has_id-true (y ∷ ys) x e = by (int_eq x y) refl e (λ rest. has_id-true ys x rest) where
   by : (b : Bool) → int_eq x y ≡ b → (b || has_id ys x) ≡ true → (has_id ys x ≡ true → Contains ys x) → Contains (y ∷ ys) x
   by true is f on = subst (λ z. Contains (y ∷ ys) z) (sym (int_eq-true x y is)) (Contains-here y ys)
@@ -78,16 +76,9 @@ same_test true false there back = sym (there refl)
 same_test false true there back = back refl
 same_test false false there back = refl
 
-pub both-true : (a b : Bool) → (a && b) ≡ true → (a ≡ true) × (b ≡ true)
-both-true true b e = (refl, e)
-both-true false b e = absurd (true_not (sym e))
-
-pub true-both : (a b : Bool) → a ≡ true → b ≡ true → (a && b) ≡ true
-true-both a b e f = ap (λ x. x && b) e ∙ f
-
 none_is : {X : Type 0} (o : Option X) → is_none o ≡ true → o ≡ None
 none_is None e = refl
-none_is (Some x) e = absurd (true_not (sym e))
+none_is (Some x) e = absurd (true≢false (sym e))
 
 -- zipped with more
 zip_with : (Q : Made → Tag → Type 0) (made : List Made) (tags : List Tag) → AllZip IsTagged made tags → ((n : ℕ) (m : Made) (t : Tag) → HasTag made tags n m t → Q m t)
@@ -126,8 +117,8 @@ show_each vertices gone over (m ∷ made) (t ∷ tags) n zip =
       next,
     )
     by false false same lists here next = here
-    by true false same lists here next = absurd (true_not (sym same))
-    by false true same lists here next = absurd (true_not same)
+    by true false same lists here next = absurd (true≢false (sym same))
+    by false true same lists here next = absurd (true≢false same)
 
 no_pos : (n m : ℕ) → pos n ≡ negsuc m → ⊥
 no_pos n m e = cc
@@ -153,14 +144,6 @@ for_stands false shown link (inl same) =
 for_stands false shown link (inr same) =
     subst (Contains (link_of_shortcut shown ∷ turned (link_of_shortcut shown) ∷ [])) (sym same)
     (Contains-later (link_of_shortcut shown) (turned (link_of_shortcut shown) ∷ []) (turned (link_of_shortcut shown)) (Contains-here (turned (link_of_shortcut shown)) []))
-
--- an image is one of an element
-pub Contains-from_map : {X Y : Type 0} (f : X → Y) (xs : List X) (y : Y) → Contains (map f xs) y → (x : X) × Contains xs x × (y ≡ f x)
-Contains-from_map f [] y h = absurd (Contains-none y h)
-Contains-from_map {X = X} {Y = Y} f (x ∷ xs) y h = by (Contains-cons_cases (f x) (map f xs) y h) (λ rest. Contains-from_map f xs y rest) where
-  by : (f x ≡ y) ⊎ Contains (map f xs) y → (Contains (map f xs) y → (z : X) × Contains xs z × (y ≡ f z)) → (z : X) × Contains (x ∷ xs) z × (y ≡ f z)
-  by (inl same) on = (x, Contains-here x xs, sym same)
-  by (inr rest) on = let (z, has, is) = on rest in (z, Contains-later x xs z has, is)
 
 module _ (directed : Bool) (given : List (LinkOf ℤ)) (are_given : AreGiven given) (events : List Event) (S : State) (sound : IsSound directed given S)
     (holding : IsHolding directed given events S) (names : List ℤ) (ends : AreEnds given names) (gone : BTreeMap ℤ Gone)
@@ -213,7 +196,7 @@ module _ (directed : Bool) (given : List (LinkOf ℤ)) (are_given : AreGiven giv
     there : Contains (resting gone test names) x → rest_of events x ≡ Some h
     there has = by (get int_cmp gone x) refl (Contains-from_filter (λ y. rests test (get int_cmp gone y)) names x has).1 where
       by : (o : Option Gone) → get int_cmp gone x ≡ o → rests test o ≡ true → rest_of events x ≡ Some h
-      by None e f = absurd (true_not (sym f))
+      by None e f = absurd (true≢false (sym f))
       by (Some g) e f =
           let rest : rest_of events x ≡ Some g.holder = known x ∙ ap (option_map (λ (y : Gone). y.holder)) e in
           rest ∙ ap (λ k. Some k) (only x g.holder rest f)
@@ -229,7 +212,7 @@ module _ (directed : Bool) (given : List (LinkOf ℤ)) (are_given : AreGiven giv
 
   at_only : (z : ℤ) (k : Holder) → holds_at z k ≡ true → k ≡ At z
   at_only z (At y) e = ap (λ w. At w) (sym (int_eq-true z y e))
-  at_only z (Over span) e = absurd (true_not (sym e))
+  at_only z (Over span) e = absurd (true≢false (sym e))
 
   -- a list shows what a vertex holds
   lists_at : (z : ℤ) → Contains S.vertices z → Lists (S.inside z) (resting gone (holds_at z) names)
@@ -243,7 +226,7 @@ module _ (directed : Bool) (given : List (LinkOf ℤ)) (are_given : AreGiven giv
 
   over_only : (n : ℕ) (t : Tag) → slice_get (tags_of directed events) n ≡ Some t → (x : ℤ) (k : Holder) → rest_of events x ≡ Some k → holds_over t.span.vertex k ≡ true
       → k ≡ Over t.span
-  over_only n t at x (At y) rest e = absurd (true_not (sym e))
+  over_only n t at x (At y) rest e = absurd (true≢false (sym e))
   over_only n t at x (Over span) rest e =
       let (k, (s, (s_at, (is, stand)))) = holding.over_stands x span rest in
       let vertex : s.span.vertex ≡ t.span.vertex = ap (λ (y : Span). y.vertex) is ∙ sym (int_eq-true t.span.vertex span.vertex e) in
@@ -266,12 +249,12 @@ module _ (directed : Bool) (given : List (LinkOf ℤ)) (are_given : AreGiven giv
   -- whether a shortcut is left, by its tag
   tag_test : (n : ℕ) (m : Made) (t : Tag) → HasTag S.made (tags_of directed events) n m t → (has_id S.vertices m.from && has_id S.vertices m.to) ≡ tag_stays gone t
   tag_test n m t tagged = same_test (has_id S.vertices m.from && has_id S.vertices m.to) (tag_stays gone t)
-      (λ e. let (a, b) = both-true (has_id S.vertices m.from) (has_id S.vertices m.to) e in
-      true-both (stays gone t.from) (stays gone t.to) (stands_stays t.from (subst (Contains S.vertices) tagged.tagged.from (has_id-true S.vertices m.from a)))
+      (λ e. let (a, b) = and_parts (has_id S.vertices m.from) (has_id S.vertices m.to) e in
+      and_from (stays gone t.from) (stays gone t.to) (stands_stays t.from (subst (Contains S.vertices) tagged.tagged.from (has_id-true S.vertices m.from a)))
       (stands_stays t.to (subst (Contains S.vertices) tagged.tagged.to (has_id-true S.vertices m.to b))))
-      (λ e. let (a, b) = both-true (stays gone t.from) (stays gone t.to) e in
+      (λ e. let (a, b) = and_parts (stays gone t.from) (stays gone t.to) e in
       let is_end = holding.tag_ends n t tagged.tag_at in
-      true-both (has_id S.vertices m.from) (has_id S.vertices m.to)
+      and_from (has_id S.vertices m.from) (has_id S.vertices m.to)
       (true-has_id S.vertices m.from (subst (Contains S.vertices) (sym tagged.tagged.from) (stays_stands t.from is_end.0 a)))
       (true-has_id S.vertices m.to (subst (Contains S.vertices) (sym tagged.tagged.to) (stays_stands t.to is_end.1 b))))
 
@@ -282,7 +265,7 @@ module _ (directed : Bool) (given : List (LinkOf ℤ)) (are_given : AreGiven giv
       (zip_with (Fit S.vertices gone over) S.made (tags_of directed events) holding.tags (λ n m t tagged. record {
         test = tag_test n m t tagged;
         lists = λ e.
-            let (a, b) = both-true (stays gone t.from) (stays gone t.to) e in
+            let (a, b) = and_parts (stays gone t.from) (stays gone t.to) e in
             let is_end = holding.tag_ends n t tagged.tag_at in
             subst (λ l. Lists m.inside l) (sym (held t.span.vertex))
             (lists_over n m t tagged (stays_stands t.from is_end.0 a) (stays_stands t.to is_end.1 b));
@@ -310,7 +293,7 @@ module _ (directed : Bool) (given : List (LinkOf ℤ)) (are_given : AreGiven giv
     there : Contains (filter (link_stays gone) given) link → Contains S.links link × ((n : ℕ) × (link.edge ≡ pos n))
     there h =
         let (is, left) = Contains-from_filter (link_stays gone) given link h in
-        let (a, b) = both-true (stays gone link.from) (stays gone link.to) left in
+        let (a, b) = and_parts (stays gone link.from) (stays gone link.to) left in
         (sound.stand link is (stays_stands link.from (end_from given link is) a) (stays_stands link.to (end_to given link is) b), are_given link is)
 
     back : Contains S.links link × ((n : ℕ) × (link.edge ≡ pos n)) → Contains (filter (link_stays gone) given) link
@@ -323,7 +306,7 @@ module _ (directed : Bool) (given : List (LinkOf ℤ)) (are_given : AreGiven giv
           ])
         ] in
         Contains-filter (link_stays gone) given link is_given
-        (true-both (stays gone link.from) (stays gone link.to) (stands_stays link.from (sound.ends link has).0) (stands_stays link.to (sound.ends link has).1))
+        (and_from (stays gone link.from) (stays gone link.to) (stands_stays link.from (sound.ends link has).0) (stands_stays link.to (sound.ends link has).1))
 
   -- the links of shortcuts
   links_of_shown : (shortcuts : List Shortcut) (link : LinkOf ℤ) → Contains (flat_map (links_shown directed) shortcuts) link ↔ IsShortcutLink directed shortcuts link

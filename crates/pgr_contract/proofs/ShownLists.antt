@@ -3,10 +3,10 @@ use Rattle.std.proofs.Common.{◌≡◌, ℕ, suc, ◌+◌, ◌<◌, ℤ, negsuc
 use Rattle.std.specs.List.{filter, flat_map, slice_get}
 use Rattle.std.specs.Ordering.{int_cmp}
 use Rattle.std.specs.BTreeMap.{BTreeMap, get}
-use Rattle.std.proofs.lemmas.List.{take_more, append-nil}
+use Rattle.std.proofs.lemmas.List.{take_more, append-nil, map-append}
 use Rattle.std.proofs.lemmas.List.Elements.{filter-append}
 use Rattle.std.proofs.lemmas.List.Concat.{flat_map-append}
-use Rattle.std.proofs.lemmas.Option.{slice_get_within, get_or_from_slice_get}
+use Rattle.pgr_outside.proofs.Lists.{take_one_more}
 use Rattle.pgr_walks.specs.declared.link.LinkOf.{LinkOf}
 use Rattle.pgr_contract.specs.declared.contracted.Kept.{Kept}
 use Rattle.pgr_contract.specs.declared.contracted.Shortcut.{Shortcut}
@@ -19,26 +19,18 @@ use Rattle.pgr_contract.specs.declared.held.Gone.{Gone}
 use Rattle.pgr_contract.specs.Held.{Tag, tag, tags_at, tags_of, span_of, rests}
 use Rattle.pgr_contract.specs.Lists.{list_at, resting, stays, tag_stays, kept_with, shown_from, links_shown, link_stays}
 
--- one element more of a front
-front_more : {X : Type 0} (xs : List X) (n : ℕ) (x : X) → slice_get xs n ≡ Some x → take (n + 1) xs ≡ take n xs ++ x ∷ []
-front_more xs n x at = take_more xs n x (slice_get_within xs n x at) ∙ ap (λ y. take n xs ++ y ∷ []) (get_or_from_slice_get xs n x x at)
-
 filter-push : {X : Type 0} (p : X → Bool) (xs : List X) (x : X) → filter p (xs ++ x ∷ []) ≡ filter p xs ++ cond (p x) (x ∷ []) []
 filter-push p xs x = filter-append p xs (x ∷ [])
 
 pub resting_more : (gone : BTreeMap ℤ Gone) (test : Holder → Bool) (names : List ℤ) (n : ℕ) (x : ℤ) → slice_get names n ≡ Some x
     → resting gone test (take (n + 1) names) ≡ resting gone test (take n names) ++ cond (rests test (get int_cmp gone x)) (x ∷ []) []
-resting_more gone test names n x at = ap (resting gone test) (front_more names n x at) ∙ filter-push (λ y. rests test (get int_cmp gone y)) (take n names) x
-
-map-append : {X Y : Type 0} (f : X → Y) (xs ys : List X) → map f (xs ++ ys) ≡ map f xs ++ map f ys
-map-append f [] ys = refl
-map-append f (x ∷ xs) ys = ap (λ zs. f x ∷ zs) (map-append f xs ys)
+resting_more gone test names n x at = ap (resting gone test) (take_one_more names n x at) ∙ filter-push (λ y. rests test (get int_cmp gone y)) (take n names) x
 
 pub kept_more : (lists : BTreeMap ℤ (List ℤ)) (gone : BTreeMap ℤ Gone) (names : List ℤ) (n : ℕ) (x : ℤ) → slice_get names n ≡ Some x
     → map (kept_with lists) (filter (stays gone) (take (n + 1) names)) ≡ map (kept_with lists) (filter (stays gone) (take n names)) ++ cond (stays gone x)
     (kept_with lists x ∷ []) []
 kept_more lists gone names n x at =
-    ap (λ xs. map (kept_with lists) (filter (stays gone) xs)) (front_more names n x at)
+    ap (λ xs. map (kept_with lists) (filter (stays gone) xs)) (take_one_more names n x at)
     ∙ (ap (map (kept_with lists)) (filter-push (stays gone) (take n names) x)
     ∙ (map-append (kept_with lists) (filter (stays gone) (take n names)) (cond (stays gone x) (x ∷ []) [])
     ∙ ap (λ ys. map (kept_with lists) (filter (stays gone) (take n names)) ++ ys) (by (stays gone x))))

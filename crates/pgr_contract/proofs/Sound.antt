@@ -2,6 +2,7 @@
 use Rattle.std.proofs.Common.{◌≡◌, ◌⊎◌, inl, inr, ℕ, ◌+◌, ◌≤◌, ℤ, Bool, true, false, List, [], ◌∷◌, ◌++◌, length, Option, Some, refl, sym, subst, ap, arith}
 use Rattle.std.specs.List.{Contains, slice_get}
 use Rattle.std.proofs.lemmas.List.Elements.{Contains-append_left, Contains-append_right, Contains-append_cases}
+use Rattle.pgr_outside.proofs.Lists.{Contains-flat_map, Contains-here, Contains-later}
 use Rattle.pgr_walks.specs.declared.link.LinkOf.{LinkOf}
 use Rattle.pgr_walks.specs.Reaches.{turned}
 use Rattle.pgr_words.specs.declared.method.Method.{Method}
@@ -11,7 +12,6 @@ use Rattle.pgr_contract.specs.Steps.{IsNeighbour, HasTwo, IsWayCost, shortcut, s
 use Rattle.pgr_contract.specs.Run.{Takes, IsRun}
 use Rattle.pgr_contract.specs.Weight.{weight}
 use Rattle.pgr_contract.specs.Given.{HaveOpposites}
-use Rattle.pgr_contract.proofs.Lists.{Contains-flat_map, Contains-here, Contains-later}
 use Rattle.pgr_contract.proofs.Ids.{without_links-from, without_links-keeps, without_vertex-from, without_vertex-keeps}
 use Rattle.pgr_contract.proofs.MadeLinks.{IsMade, IsMade-from, links_of_made-there, links_of_made-back}
 use Rattle.pgr_contract.proofs.Places.{get_first, get_second, get_either}
@@ -80,7 +80,8 @@ dead_end_sound directed given S v u sound opposites = record {
 pub new_ends : (directed : Bool) (low high : ℤ) (there back : Option ℕ) (inside : List ℤ) (m : Made) → Contains (shortcuts_between directed low high there back inside) m
     → ((m.from ≡ low) × (m.to ≡ high)) ⊎ ((m.from ≡ high) × (m.to ≡ low))
 new_ends true low high there back inside m h =
-    elim (Contains-append_cases (shortcut low high there inside) (shortcut high low back inside) m h) as (λ _. ((m.from ≡ low) × (m.to ≡ high)) ⊎ ((m.from ≡ high) × (m.to ≡ low))) [
+    elim (Contains-append_cases (shortcut low high there inside) (shortcut high low back inside) m h) as (λ _. ((m.from ≡ low) × (m.to ≡ high))
+    ⊎ ((m.from ≡ high) × (m.to ≡ low))) [
       | inl first ↦ let (c, (e, is)) = shortcut-from low high there inside m first in inl (ap (λ (x : Made). x.from) is, ap (λ (x : Made). x.to) is)
       | inr second ↦ let (c, (e, is)) = shortcut-from high low back inside m second in inr (ap (λ (x : Made). x.from) is, ap (λ (x : Made). x.to) is)
     ]
@@ -113,7 +114,8 @@ fresh_ends : (directed : Bool) (given : List (LinkOf ℤ)) (S : State) (v low hi
     → (link : LinkOf ℤ) → IsMade directed (length S.made) (shortcuts_between directed low high there back (left_of S v)) link
     → Contains (without_vertex v S.vertices) link.from × Contains (without_vertex v S.vertices) link.to
 fresh_ends directed given S v low high there back sound two link made =
-    by (new_ends directed low high there back (left_of S v) made.shown (at_place (shortcuts_between directed low high there back (left_of S v)) made.place made.shown made.at)) made.either
+    by (new_ends directed low high there back (left_of S v) made.shown (at_place (shortcuts_between directed low high there back (left_of S v)) made.place made.shown made.at))
+    made.either
   where
     low_stands : Contains (without_vertex v S.vertices) low
     low_stands = without_vertex-keeps v S.vertices low (neighbour_stands directed given S v low sound two.first) two.first.0
@@ -192,7 +194,8 @@ linear_sound directed given S v low high there back sound two there_is back_is o
     }
 
 -- after a step
-pub step_sound : (directed : Bool) (given : List (LinkOf ℤ)) (method : Method) (v : ℤ) (S T : State) → IsSound directed given S → IsStep directed method v S T → IsSound directed given T
+pub step_sound : (directed : Bool) (given : List (LinkOf ℤ)) (method : Method) (v : ℤ) (S T : State) → IsSound directed given S → IsStep directed method v S T
+    → IsSound directed given T
 step_sound directed given DeadEnd v S T sound step =
     let kept = step_keeps directed DeadEnd v S (after_dead_end v step.neighbour S) sound.opposites (record { neighbour = step.neighbour; one = step.one; after = refl }) in
     subst (λ R. IsSound directed given R) (sym step.after) (dead_end_sound directed given S v step.neighbour sound kept.opposites)

@@ -2,6 +2,7 @@
 use Rattle.std.proofs.Common.{◌≡◌, ◌≢◌, ◌⊎◌, inl, inr, ℕ, zero, suc, ◌+◌, ◌≤◌, ℤ, Bool, true, false, List, [], ◌∷◌, ◌++◌, length, Option, Some, None, refl, sym, subst, ◌∙◌, ap, arith}
 use Rattle.std.specs.List.{Contains, slice_get}
 use Rattle.std.proofs.lemmas.List.Elements.{Contains-append_left, Contains-append_right, Contains-append_cases}
+use Rattle.pgr_outside.proofs.Lists.{Contains-here, Contains-later, Contains-cons_cases, Contains-none}
 use Rattle.pgr_walks.specs.declared.link.LinkOf.{LinkOf}
 use Rattle.pgr_walks.specs.Walk.{IsWalk, cost_of}
 use Rattle.pgr_walks.specs.Reaches.{turned}
@@ -10,7 +11,6 @@ use Rattle.pgr_words.specs.declared.method.Method.TheVariants.{DeadEnd, Linear}
 use Rattle.pgr_contract.specs.State.{Made, State, left_of, without_links_at, link_of_made, links_of_made}
 use Rattle.pgr_contract.specs.Steps.{IsNeighbour, HasOne, HasTwo, IsWayCost, shortcut, shortcuts_between, after_dead_end, after_linear, IsStep}
 use Rattle.pgr_contract.specs.Given.{HaveOpposites}
-use Rattle.pgr_contract.proofs.Lists.{Contains-here, Contains-later, Contains-cons_cases, Contains-none}
 use Rattle.pgr_contract.proofs.Ids.{same_id, without_links-from, without_links-keeps, without_vertex-from}
 use Rattle.pgr_contract.proofs.MadeLinks.{IsMade, IsMade-from, links_of_made-there, links_of_made-back}
 use Rattle.pgr_contract.proofs.Bypass.{WalkWithin, LinkWithin, led_past, spelled}
@@ -78,7 +78,8 @@ shortcut-from a b (Some c) inside m h = by (Contains-cons_cases (record { from =
   by (inl same) = (c, (refl, sym same))
   by (inr none) = absurd (Contains-none m none)
 
-pub shortcut-has : (a b : ℤ) (cost : Option ℕ) (inside : List ℤ) (c : ℕ) → cost ≡ Some c → Contains (shortcut a b cost inside) (record { from = a; to = b; cost = c; inside = inside })
+pub shortcut-has : (a b : ℤ) (cost : Option ℕ) (inside : List ℤ) (c : ℕ) → cost ≡ Some c → Contains (shortcut a b cost inside)
+    (record { from = a; to = b; cost = c; inside = inside })
 shortcut-has a b None inside c e = absurd (let f = e in cc)
 shortcut-has a b (Some d) inside c e =
     let is : d ≡ c = cc in
@@ -253,7 +254,8 @@ over_linear directed S v low high there back opposites two there_is back_is into
         back_link (length S.made) low high there back (left_of S v) (into.cost + out.cost)
         (way_within (Contains S.links) high v low back into out back_is has_into has_out is_high at_into at_out is_low)
     down false given is_high is_low =
-        let way = way_within (Contains S.links) low v high there (turned out) (turned into) there_is (given refl out has_out) (given refl into has_into) is_low at_out at_into is_high in
+        let way = way_within (Contains S.links) low v high there (turned out) (turned into) there_is (given refl out has_out) (given refl into has_into) is_low at_out at_into
+        is_high in
         turned_link (length S.made) low high there back (left_of S v) (into.cost + out.cost) (record { at = way.at; is = way.is; within = omega (arith, way.within) })
 
     by : (into.from ≡ low) ⊎ (into.from ≡ high) → (out.to ≡ low) ⊎ (out.to ≡ high)
@@ -291,12 +293,14 @@ linear_keeps : (directed : Bool) (S : State) (v low high : ℤ) (there back : Op
     → IsWayCost (Contains S.links) low v high there → IsWayCost (Contains S.links) high v low back → Keeps directed S (after_linear directed v low high there back S)
 linear_keeps directed S v low high there back opposites two there_is back_is = record {
   onward = λ s t walk s_left t_left w. led_past same_id (Contains S.links) (Contains (after_linear directed v low high there back S).links) v
-      (λ link has from to. Contains-append_left (without_links_at v S.links) (links_of_made directed (length S.made) (shortcuts_between directed low high there back (left_of S v))) link
+      (λ link has from to. Contains-append_left (without_links_at v S.links)
+      (links_of_made directed (length S.made) (shortcuts_between directed low high there back (left_of S v))) link
       (without_links-keeps v S.links link has from to))
       (over_linear directed S v low high there back opposites two there_is back_is)
       s t walk (without_vertex-from v S.vertices s s_left).1 (without_vertex-from v S.vertices t t_left).1 w;
   back = λ s t walk w. spelled (Contains S.links) (Contains (after_linear directed v low high there back S).links)
-      (λ link h. elim (Contains-append_cases (without_links_at v S.links) (links_of_made directed (length S.made) (shortcuts_between directed low high there back (left_of S v))) link h)
+      (λ link h. elim (Contains-append_cases (without_links_at v S.links) (links_of_made directed (length S.made) (shortcuts_between directed low high there back (left_of S v)))
+      link h)
       as (λ _. WalkWithin (Contains S.links) link.from link.to link.cost) [
         | inl old ↦ alone (Contains S.links) link (without_links-from v S.links link old).0
         | inr new ↦ spell_made directed S v low high there back (left_of S v) opposites there_is back_is link

@@ -2,6 +2,7 @@
 use Rattle.std.proofs.Common.{◌≡◌, ◌≢◌, ◌⊎◌, inl, inr, ℕ, ◌≤◌, ℤ, [], ◌∷◌, ◌++◌, Option, Some, None, sym, subst, ◌∙◌, ap, arith}
 use Rattle.std.specs.List.{Contains}
 use Rattle.std.specs.BTreeSet.{BTreeSet}
+use Rattle.std.proofs.lemmas.List.Sums.{fold_push}
 use Rattle.pgr_walks.specs.Graph.{greatest}
 use Rattle.pgr_words.specs.declared.method.Method.{Method}
 use Rattle.pgr_words.specs.declared.method.Method.TheVariants.{DeadEnd, Linear}
@@ -21,7 +22,7 @@ use Rattle.pgr_contract.proofs.WayChanges.{way_at-same}
 use Rattle.pgr_contract.proofs.WayEvents.{cost_is}
 use Rattle.pgr_contract.proofs.Weights.{cost_within}
 use Rattle.pgr_contract.proofs.Sound.{IsSound, first_sound}
-use Rattle.pgr_contract.proofs.EventSteps.{event_step, IsLogFrom-push, fold-push, log_sound, covers_after, next_is, none_may}
+use Rattle.pgr_contract.proofs.EventSteps.{event_step, IsLogFrom-push, log_sound, covers_after, next_is, none_may}
 
 -- the state of a contraction is sound
 pub running_sound : (task : Task) (s : Shrinking) → IsTask task → IsRunning task s → IsSound task.directed task.links.now (now_of task s)
@@ -48,12 +49,13 @@ running_small task s is running a b cost kept = by (same_id a b) where
 -- the state after one event more
 now-push : (task : Task) (old new : Shrinking) (event : Event) → new.events.items ≡ old.events.items ++ event ∷ [] → now_of task new ≡ after task.directed (now_of task old) event
 now-push task old new event is =
-    ap (state_of task.directed task.links.now) is ∙ fold-push (after task.directed) (first_state task.links.now) old.events.items event
+    ap (state_of task.directed task.links.now) is ∙ fold_push (after task.directed) (first_state task.links.now) old.events.items event
 
 -- what is kept after a step, where the candidates had all but the vertex that goes
 step_running : (task : Task) (old mid new : Shrinking) (event : Event) → IsTask task → IsRunning task old → mid.events.items ≡ old.events.items → mid.ways ≡ old.ways
     → IsEventOf (now_of task old).links event → IsNoted task event mid new
-    → ((x : ℤ) → Contains (now_of task old).vertices x → ¬ Among task.barred x → Qualifies DeadEnd (Contains (now_of task old).links) x → x ≢ vertex_of event → Among mid.dead_ends x)
+    → ((x : ℤ) → Contains (now_of task old).vertices x → ¬ Among task.barred x → Qualifies DeadEnd (Contains (now_of task old).links) x → x ≢ vertex_of event
+    → Among mid.dead_ends x)
     → ((x : ℤ) → Among mid.dead_ends x → ¬ Among task.barred x)
     → ((x : ℤ) → Contains (now_of task old).vertices x → ¬ Among task.barred x → Qualifies Linear (Contains (now_of task old).links) x → x ≢ vertex_of event → Among mid.linears x)
     → ((x : ℤ) → Among mid.linears x → ¬ Among task.barred x) → IsRunning task new
@@ -98,7 +100,8 @@ done_step task method old new event now is running events set left covers taken 
     }
 
 -- the next step of a method, noted
-pub step_done : (task : Task) (method : Method) (old mid new : Shrinking) (event : Event) → IsTask task → IsRunning task old → IsNextIn method old mid (Some event) → IsNoted task event mid new
+pub step_done : (task : Task) (method : Method) (old mid new : Shrinking) (event : Event) → IsTask task → IsRunning task old → IsNextIn method old mid (Some event)
+    → IsNoted task event mid new
     → IsDone task method old new
 step_done task DeadEnd old mid new event is running next noted =
     let S = now_of task old in
@@ -148,7 +151,8 @@ over_running task old mid running events ways dead_ends linears =
     }
 
 -- candidates of which none qualifies
-none_covers : (method : Method) (barred : BTreeSet ℤ) (S : State) (old new : BTreeSet ℤ) → Covers method barred S old → ((x : ℤ) → Among old x → ¬ Qualifies method (Contains S.links) x)
+none_covers : (method : Method) (barred : BTreeSet ℤ) (S : State) (old new : BTreeSet ℤ) → Covers method barred S old
+    → ((x : ℤ) → Among old x → ¬ Qualifies method (Contains S.links) x)
     → ((x : ℤ) → Among new x → Among old x) → Covers method barred S new
 none_covers method barred S old new covers none fewer = record {
   all = λ x stands free qualifies. absurd (none x (covers.all x stands free qualifies) qualifies);

@@ -16,7 +16,7 @@ use Rattle.pgr_contract.specs.State.{State, left_of, without_links_at, link_of_m
 use Rattle.pgr_contract.specs.Steps.{IsNeighbour, HasOne, HasTwo, IsWay, IsWayCost, Qualifies, shortcuts_between, after_dead_end}
 use Rattle.pgr_contract.specs.Ways.{at_pair, lesser, cost_sum, is_pair, least_link, way_of, way_at, kept_cost, lowered, forgotten, HoldsWays, IsNear}
 use Rattle.pgr_contract.specs.Events.{IsPass, after}
-use Rattle.pgr_contract.proofs.Ids.{same_id}
+use Rattle.pgr_contract.proofs.Ids.{same_id, less_apart}
 use Rattle.pgr_contract.proofs.LeastLinks.{pair-hit, pair-miss, IsLeastOr, least_link-is, cost_sum-is}
 use Rattle.pgr_contract.proofs.WayChanges.{AreBetween, noted_is, folded_ways, passed_ways, way_at-apart, way_at-same, kept-way_at, nothing_not}
 
@@ -101,9 +101,6 @@ pub folded_holds : (S : State) (v u : ℤ) (old new : BTreeMap (ℤ × ℤ) (Opt
 folded_holds S v u old new holds one changed a b =
     changed a b ∙ (forgotten-like v u (at_pair old) (way_at S.links) a b (holds a b) ∙ folded_ways S.links v u one a b)
 
-less_apart : (x y : ℤ) → x <ℤ y → x ≢ y
-less_apart x y less same = absurd (omega (arith, ints))
-
 -- after a linear vertex
 pub passed_holds : (directed : Bool) (S : State) (passed : Bypassed) (old forgot once new : BTreeMap (ℤ × ℤ) (Option ℕ)) → (directed ≡ false → HaveOpposites S.links)
     → HoldsWays S.links old → IsPass S.links passed
@@ -143,7 +140,8 @@ near_kept links v x some = by (same_id x v) where
 
 pub kept_near : (links : List (LinkOf ℤ)) (v x : ℤ) → IsNeighbour (Contains links) v x → IsSome (way_at links v x)
 kept_near links v x (differs, (link, (has, either))) = by either where
-  at : (o p : Option ℕ) → IsLeastOr (Contains links) v x o → IsLeastOr (Contains links) x v p → ((link.from ≡ v) × (link.to ≡ x)) ⊎ ((link.from ≡ x) × (link.to ≡ v)) → IsSome (way_of o p)
+  at : (o p : Option ℕ) → IsLeastOr (Contains links) v x o → IsLeastOr (Contains links) x v p → ((link.from ≡ v) × (link.to ≡ x)) ⊎ ((link.from ≡ x) × (link.to ≡ v))
+      → IsSome (way_of o p)
   at None None first second (inl (from, to)) = absurd (first (link, (has, (from, to))))
   at None None first second (inr (from, to)) = absurd (second (link, (has, (from, to))))
   at None (Some c) first second e = refl
@@ -249,7 +247,8 @@ module _ (links : List (LinkOf ℤ)) (ways : BTreeMap (ℤ × ℤ) (Option ℕ))
       ]
 
 -- what a way costs, by what is kept
-pub pass_cost : (links : List (LinkOf ℤ)) (ways : BTreeMap (ℤ × ℤ) (Option ℕ)) → HoldsWays links ways → (a v b : ℤ) → a ≢ v → b ≢ v → (o p s : Option ℕ) → o ≡ kept_cost (at_pair ways a v)
+pub pass_cost : (links : List (LinkOf ℤ)) (ways : BTreeMap (ℤ × ℤ) (Option ℕ)) → HoldsWays links ways → (a v b : ℤ) → a ≢ v → b ≢ v → (o p s : Option ℕ)
+    → o ≡ kept_cost (at_pair ways a v)
     → p ≡ kept_cost (at_pair ways v b) → s ≡ cost_sum o p → IsWayCost (Contains links) a v b s
 pass_cost links ways holds a v b a_v b_v o p s first second sum =
     subst (λ x. IsWayCost (Contains links) a v b x) (sym sum) (cost_sum-is (Contains links) a v b o p

@@ -6,14 +6,14 @@ use Rattle.std.specs.Ordering.{int_cmp, int_eq, is_gt, ordering_reverse}
 use Rattle.std.proofs.lemmas.Cmp.{int_ranked, int_cmp_total}
 use Rattle.std.proofs.lemmas.List.Sums.{sum_by-cons, sum_by-append}
 use Rattle.std.proofs.lemmas.Int.{ints}
+use Rattle.pgr_outside.proofs.Lists.{Contains-cons_cases, Contains-none}
 use Rattle.pgr_walks.specs.declared.link.LinkOf.{LinkOf}
 use Rattle.pgr_walks.specs.Reaches.{turned}
 use Rattle.pgr_contract.specs.State.{Made, State, left_of, touches, without_links_at, link_of_made, links_of_made}
 use Rattle.pgr_contract.specs.Steps.{HasTwo, IsWayCost, shortcuts_between, after_linear}
 use Rattle.pgr_contract.specs.Weight.{counted, weight}
 use Rattle.pgr_contract.specs.Given.{HaveOpposites}
-use Rattle.pgr_contract.proofs.Lists.{Contains-cons_cases, Contains-none}
-use Rattle.pgr_contract.proofs.Ids.{same_id, eq-int_eq, ne-int_eq, touches-false, touches-true, touched_from, touched_to}
+use Rattle.pgr_contract.proofs.Ids.{same_id, eq-int_eq, ne-int_eq, touches-false, touches-true, touched_from, touched_to, less_apart}
 
 -- what one element adds is at most the sum
 pub member_sum : {X : Type 0} (f : X → ℕ) (xs : List X) (x : X) → Contains xs x → f x ≤ sum_by f xs
@@ -70,7 +70,8 @@ down_counts_not link less = by (int_cmp link.from link.to) refl where
   by Greater e = ap (λ o. cond (not (is_gt o)) link.cost 0) e
 
 -- no link of a list costs more than the sum, where in the undirected graph the opposite of each stands
-pub cost_within : (directed : Bool) (links : List (LinkOf ℤ)) → (directed ≡ false → HaveOpposites links) → (link : LinkOf ℤ) → Contains links link → link.cost ≤ weight directed links
+pub cost_within : (directed : Bool) (links : List (LinkOf ℤ)) → (directed ≡ false → HaveOpposites links) → (link : LinkOf ℤ) → Contains links link
+    → link.cost ≤ weight directed links
 cost_within true links opposites link h = member_sum (counted true) links link h
 cost_within false links opposites link h = elim (counts_either link) as (λ _. link.cost ≤ weight false links) [
   | inl same ↦ omega (arith, member_sum (counted false) links link h, same)
@@ -157,7 +158,14 @@ way_sum : (links : List (LinkOf ℤ)) (a v b : ℤ) (cost : Option ℕ) → IsWa
     → cost_or_zero cost ≤ sum_by (part (counted true) a v) links + sum_by (part (counted true) v b) links
 way_sum links a v b None way = omega arith
 way_sum links a v b (Some cost) (i, (o, (into, (out, is)))) =
-    omega (arith, is, into.cost_is, out.cost_is, part_sum (counted true) a v links into.link into.has into.from into.to, part_sum (counted true) v b links out.link out.has out.from out.to)
+    omega (
+      arith,
+      is,
+      into.cost_is,
+      out.cost_is,
+      part_sum (counted true) a v links into.link into.has into.from into.to,
+      part_sum (counted true) v b links out.link out.has out.from out.to,
+    )
 
 -- in the undirected graph the links between two vertices, both ways, add up to the cost of each at least
 either_sum : (links : List (LinkOf ℤ)) (a b : ℤ) → HaveOpposites links → (link : LinkOf ℤ) → Contains links link → link.from ≡ a → link.to ≡ b
@@ -198,10 +206,6 @@ undirected_new n low high (Some a) back inside less =
     let up : counted false (link_of_made n m) ≤ a = counted-le false (link_of_made n m) in
     let down : counted false (turned (link_of_made n m)) ≡ 0 = down_counts_not (turned (link_of_made n m)) less in
     omega (arith, up, down)
-
--- less is not the same
-less_apart : (x y : ℤ) → x <ℤ y → x ≢ y
-less_apart x y less same = absurd (omega (arith, ints))
 
 -- a linear vertex never raises the sum
 pub linear_weight : (directed : Bool) (S : State) (v low high : ℤ) (there back : Option ℕ) → (directed ≡ false → HaveOpposites S.links) → HasTwo (Contains S.links) v low high

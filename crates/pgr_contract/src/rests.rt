@@ -29,7 +29,9 @@ pub(crate) fn rests_of(alloc: Global, events: &[Event]) -> Result<Rests, NoMemor
 /// Notes where the vertex of a step rests, when those of all later steps are known.
 fn put_rest(rests: &mut Rests, place: usize, event: Event) -> Result<(), NoMemory>
     ensures { OnOk result ((x : ℤ) → get int_cmp rests.new x
-        ≡ (if int_eq x (events.vertex_of event) then Some (record { place = place; holder = held.resolved (get int_cmp rests.old) (held.holder_of event) }) else get int_cmp rests.old x)) }
+        ≡ (if int_eq x (events.vertex_of event)
+        then Some (record { place = place; holder = held.resolved (get int_cmp rests.old) (held.holder_of event) })
+        else get int_cmp rests.old x)) }
 {
     let holder = resolve(rests, holder_of(event));
     rests.insert(vertex_of(event), Gone { place, holder })?;

@@ -40,7 +40,8 @@ across size arcs source sink inside flows below flow cut =
           (cut.sources a.to)) arcs flows,
     )
 
-carried : (f t : Bool) (n c : ℕ) → n ≤ c → cond f n 0 ≤ cond (f && not t) c 0 + cond t n 0
+-- what an arc carries out of a set is at most what it may, and what it carries in
+pub carried : (f t : Bool) (n c : ℕ) → n ≤ c → cond f n 0 ≤ cond (f && not t) c 0 + cond t n 0
 carried true true n c h = omega arith
 carried true false n c h = omega arith
 carried false true n c h = omega arith

@@ -1,7 +1,7 @@
 -- Walks down the levels: a step on, a step back, and the pointers into the parts.
-use Rattle.std.proofs.Common.{◌≡◌, ℕ, ◌+◌, ◌<◌, ◌≤◌, ⊎_elim, true, false, cond, ltb, List, length, get_or, set, refl, sym, ap, ◌∙◌, subst, arith, Option, Some, None}
+use Rattle.std.proofs.Common.{◌≡◌, ℕ, ◌+◌, ◌<◌, ◌≤◌, ⊎_elim, false, cond, ltb, List, length, get_or, set, refl, sym, ap, ◌∙◌, subst, arith, Option, Some, None}
 use Rattle.std.specs.List.{sum_by}
-use Rattle.std.proofs.lemmas.Bool.{cases_eq, cases_lt}
+use Rattle.std.proofs.lemmas.Bool.{cases_eq, cases_lt, lt-ltb}
 use Rattle.std.proofs.lemmas.Bool.Decides.{nat_tests}
 use Rattle.std.proofs.lemmas.List.{get_or-set_same, get_or-set_other, length-set}
 use Rattle.std.proofs.lemmas.List.Sums.{sum_by-set}
@@ -81,12 +81,9 @@ pointers_start size arcs starts list holds = record { size_is = refl; low = λ v
 not_less : (n : ℕ) → ltb n n ≡ false
 not_less n = grind (arith, nat_tests)
 
-less : (m n : ℕ) → m < n → ltb m n ≡ true
-less m n h = grind (arith, nat_tests)
-
 -- the vertex of a level below the top is where a step begins, that of the top the sink
 pub node_below : (steps : List Step) (t top l : ℕ) → l < top → node steps t top l ≡ (step_at steps l).from
-node_below steps t top l lt = ap (λ b. cond b (step_at steps l).from t) (less l top lt)
+node_below steps t top l lt = ap (λ b. cond b (step_at steps l).from t) (lt-ltb l top lt)
 
 pub node_top : (steps : List Step) (t top : ℕ) → node steps t top top ≡ t
 node_top steps t top = ap (λ b. cond b (step_at steps top).from t) (not_less top)

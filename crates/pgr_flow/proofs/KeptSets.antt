@@ -1,8 +1,8 @@
 -- Where every vertex of a set keeps the flow, so does the set: vertex by vertex, up to the size.
 use Rattle.std.proofs.Common.{◌≡◌, ℕ, ◌+◌, ◌<◌, zero, suc, Bool, true, false, cond, ◌&&◌, List, [], ◌∷◌, ltb, eqb, nat_eq, refl, sym, ap, ◌∙◌, ⊎_elim, arith, All}
 use Rattle.std.specs.List.{AllByRecursion}
-use Rattle.std.proofs.Math.Bool.{and-true}
-use Rattle.std.proofs.lemmas.Bool.{cases_eq}
+use Rattle.std.proofs.Math.Bool.{and-true, and-false}
+use Rattle.std.proofs.lemmas.Bool.{cases_eq, lt-ltb}
 use Rattle.std.proofs.lemmas.Bool.Decides.{nat_tests}
 use Rattle.std.proofs.lemmas.List.Elements.{recursion_from_All}
 use Rattle.pgr_walks.specs.declared.link.LinkOf.{LinkOf}
@@ -35,18 +35,11 @@ one_more D x n m = ⊎_elim
     omega (arith, ap (λ p. cond (D x && p) m 0) h.0, ap (λ p. cond (D n && p) m 0) h.1, skip (D x) (D n) (ltb x n) m))
     (cases_eq x n)
 
-is_below : (x n : ℕ) → x < n → ltb x n ≡ true
-is_below x n h = grind (arith, nat_tests)
-
 not_below_zero : (x : ℕ) → ltb x 0 ≡ false
 not_below_zero x = grind (arith, nat_tests)
 
-and_false : (b : Bool) → (b && false) ≡ false
-and_false true = refl
-and_false false = refl
-
 below_size : (D : ℕ → Bool) (x n : ℕ) → x < n → (D x && ltb x n) ≡ D x
-below_size D x n h = ap (λ p. D x && p) (is_below x n h) ∙ and-true (D x)
+below_size D x n h = ap (λ p. D x && p) (lt-ltb x n h) ∙ and-true (D x)
 
 starts_agree : (D : ℕ → Bool) (size : ℕ) (arcs : List (LinkOf ℕ)) → AllByRecursion (HasEndsBelow size) arcs
     → AllByRecursion (λ (a : LinkOf ℕ). (D a.from && ltb a.from size) ≡ D a.from) arcs
@@ -64,7 +57,7 @@ module _ (arcs : List (LinkOf ℕ)) (flows : List ℕ) (D : ℕ → Bool) (kept 
   single n false is = sum_where-none (λ a. false) (λ a. refl) arcs flows ∙ sym (sum_where-none (λ a. false) (λ a. refl) arcs flows)
 
   none_below : (x : ℕ) → (D x && ltb x 0) ≡ false
-  none_below x = ap (λ p. D x && p) (not_below_zero x) ∙ and_false (D x)
+  none_below x = ap (λ p. D x && p) (not_below_zero x) ∙ and-false (D x)
 
   kept_below : (n : ℕ) → leaving (λ x. D x && ltb x n) arcs flows ≡ entering (λ x. D x && ltb x n) arcs flows
   kept_below zero = sum_where-none (λ a. D a.from && ltb a.from 0) (λ a. none_below a.from) arcs flows

@@ -10,7 +10,7 @@ use Rattle.pgr_flow.specs.Cut.{IsCut, IsLeastCut, IsLeastSide, leads_out, capaci
 use Rattle.pgr_flow.specs.Residual.{no_arc, arc_at, start_of, end_of, room, IsResidual}
 use Rattle.pgr_flow.specs.Levels.{level_at, labelled, IsGrounded}
 use Rattle.pgr_flow.proofs.Sums.{AreWithin-at}
-use Rattle.pgr_flow.proofs.Across.{across, leaving-le, weak_duality}
+use Rattle.pgr_flow.proofs.Across.{across, leaving-le, weak_duality, carried}
 
 -- an arc out of the set is full, one into it empty
 pub IsTightArc : Bool → Bool → ℕ → ℕ → Type 0
@@ -28,7 +28,7 @@ carried_tight true false n c h = let e = h.0 refl refl in omega (arith, e)
 carried_tight false true n c h = let e = h.1 refl refl in omega (arith, e)
 carried_tight false false n c h = omega arith
 
--- W5
+-- where each arc out of the side is full and each into it is empty, what leaves the side is its capacity, with what comes in
 tight_sum : (inside : ℕ → Bool) (arcs : List (LinkOf ℕ)) (flows : List ℕ) → AreWithin arcs flows → AreTight inside arcs flows
     → leaving inside arcs flows ≡ capacity_of inside arcs + entering inside arcs flows
 unfolding sum_where
@@ -43,12 +43,6 @@ tight_sum inside (a ∷ arcs) (n ∷ flows) w h =
           (leads_out inside x) x.cost 0) a arcs,
     )
 
-carried_le : (f t : Bool) (n c : ℕ) → n ≤ c → cond f n 0 ≤ cond (f && not t) c 0 + cond t n 0
-carried_le true true n c h = omega arith
-carried_le true false n c h = omega arith
-carried_le false true n c h = omega arith
-carried_le false false n c h = omega arith
-
 tight_arc : (f t : Bool) (n c : ℕ) → n ≤ c → cond (f && not t) c 0 + cond t n 0 ≤ cond f n 0 → IsTightArc f t n c
 unfolding IsTightArc
 tight_arc true true n c w h = ((λ e g. absurd (cc)), (λ e g. absurd (cc)))
@@ -56,14 +50,14 @@ tight_arc true false n c w h = ((λ e g. omega arith), (λ e g. absurd (cc)))
 tight_arc false true n c w h = ((λ e g. absurd (cc)), (λ e g. omega arith))
 tight_arc false false n c w h = ((λ e g. absurd (cc)), (λ e g. absurd (cc)))
 
--- W6
+-- where what leaves the side is no less than its capacity with what comes in, each arc out of it is full and each into it is empty
 sum_tight : (inside : ℕ → Bool) (arcs : List (LinkOf ℕ)) (flows : List ℕ) → AreWithin arcs flows
     → capacity_of inside arcs + entering inside arcs flows ≤ leaving inside arcs flows → AreTight inside arcs flows
 unfolding sum_where
 sum_tight inside [] flows w h = tt
 sum_tight inside (a ∷ arcs) [] w h = absurd w
 sum_tight inside (a ∷ arcs) (n ∷ flows) w h =
-    let one = carried_le (inside a.from) (inside a.to) n a.cost w.0 in
+    let one = carried (inside a.from) (inside a.to) n a.cost w.0 in
     let rest = leaving-le inside arcs flows w.1 in
     let cons = sum_by-cons (λ (x : LinkOf ℕ). cond (leads_out inside x) x.cost 0) a arcs in
     (tight_arc (inside a.from) (inside a.to) n a.cost w.0 (omega arith), sum_tight inside arcs flows w.1 (omega arith))
@@ -82,7 +76,7 @@ tight_each inside [] flows w h = tt
 tight_each inside (a ∷ arcs) [] w h = tt
 tight_each inside (a ∷ arcs) (n ∷ flows) w h = (h 0 (omega arith), tight_each inside arcs flows w.1 (λ k lt. h (suc k) (omega arith)))
 
--- W7: residual links that begin in a tight cut end in it
+-- residual links that begin in a tight cut end in it
 stays : (from to : Bool) (n c : ℕ) → IsTightArc from to n c → (way : Way) → n ≤ c
     → elim way as (λ w. Type 0) [ Along ↦ (from ≡ true) × (0 < c - n) | Against ↦ (to ≡ true) × (0 < n) ]
     → elim way as (λ w. Type 0) [ Along ↦ to ≡ true | Against ↦ from ≡ true ]

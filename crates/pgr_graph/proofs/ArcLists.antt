@@ -8,9 +8,12 @@ use Rattle.std.proofs.lemmas.Bool.Decides.{Decides-int_eq, Decides-eqb}
 use Rattle.std.proofs.lemmas.List.{append-nil, append_assoc}
 use Rattle.std.proofs.lemmas.List.Sums.{sum_by-cons}
 use Rattle.pgr_outside.specs.Lists.{IsWithoutRepeats}
+use Rattle.pgr_outside.proofs.Lists.{take_one_more}
 use Rattle.pgr_walks.specs.declared.link.LinkOf.{LinkOf}
 use Rattle.pgr_walks.specs.Walk.{cost_of}
 use Rattle.pgr_walks.proofs.Repeats.{Among, Apart, Apart-from_IsWithoutRepeats}
+use Rattle.pgr_walks.proofs.Membership.{Among-from_Contains, Contains-from_Among, Among-cases, Among-left, Among-right, Among-map}
+use Rattle.pgr_walks.proofs.BackWalks.{cost_of-append}
 use Rattle.pgr_table.specs.declared.row.CapacityRow.{CapacityRow}
 use Rattle.pgr_table.specs.Rows.{counted}
 use Rattle.pgr_table.specs.Capacities.{capacities_of, sum_of_capacities}
@@ -18,8 +21,6 @@ use Rattle.pgr_graph.specs.declared.links.Direction.{Direction}
 use Rattle.pgr_graph.specs.declared.links.Direction.TheVariants.{Forward, Backward}
 use Rattle.pgr_graph.specs.Arcs.{capacity_along, arc_along, IsArcOfRow, IsArcOfTable}
 use Rattle.pgr_graph.specs.ArcSenses.{arc_of_sense}
-use Rattle.pgr_graph.proofs.OneCost.{Among-from_Contains, Contains-from_Among, Among-append, Among-append_left, Among-append_right, cost_of-append}
-use Rattle.pgr_graph.proofs.TableLinks.{take_one_more}
 
 -- an arc along a row has its edge and its capacity
 arc_edge : (row : CapacityRow) (direction : Direction) (n : ℕ) → (arc_along row direction n).edge ≡ row.id
@@ -100,7 +101,7 @@ row_cases : (row : CapacityRow) (arc : LinkOf ℤ) → Among arc (arcs_of_row ro
 row_cases row arc h = ⊎_elim
     (λ k. inl (sense_gives row Forward row.capacity arc k))
     (λ k. inr (sense_gives row Backward row.reverse_capacity arc k))
-    (Among-append arc (option_to_list (arc_of_sense row Forward row.capacity)) (option_to_list (arc_of_sense row Backward row.reverse_capacity)) h)
+    (Among-cases arc (option_to_list (arc_of_sense row Forward row.capacity)) (option_to_list (arc_of_sense row Backward row.reverse_capacity)) h)
 
 row_gives : (row : CapacityRow) (arc : LinkOf ℤ) → Among arc (arcs_of_row row) → IsArcOfRow row arc
 row_gives row arc h = ⊎_elim
@@ -112,10 +113,10 @@ gives_row : (row : CapacityRow) (arc : LinkOf ℤ) → IsArcOfRow row arc → Am
 gives_row row arc h = at h.direction h.capacity h.along
   where
     at : (direction : Direction) → capacity_along row direction ≡ pos arc.cost → arc ≡ arc_along row direction arc.cost → Among arc (arcs_of_row row)
-    at Forward capacity along = Among-append_left arc (option_to_list (arc_of_sense row Forward row.capacity))
+    at Forward capacity along = Among-left arc (option_to_list (arc_of_sense row Forward row.capacity))
         (option_to_list (arc_of_sense row Backward row.reverse_capacity)) (gives_sense row Forward row.capacity arc
         (record { apart = h.apart; positive = h.positive; capacity_is = capacity; along = along }))
-    at Backward capacity along = Among-append_right arc (option_to_list (arc_of_sense row Forward row.capacity))
+    at Backward capacity along = Among-right arc (option_to_list (arc_of_sense row Forward row.capacity))
         (option_to_list (arc_of_sense row Backward row.reverse_capacity)) (gives_sense row Backward row.reverse_capacity arc
         (record { apart = h.apart; positive = h.positive; capacity_is = capacity; along = along }))
 
@@ -135,11 +136,6 @@ abbrev pub key : LinkOf ℤ → ℤ × (ℤ × ℤ)
 key arc = (arc.edge, (arc.from, arc.to))
 
 -- an element of a list whose elements were changed
-Among-map : {X Y : Type 0} (f : X → Y) (x : X) (xs : List X) → Among x xs → Among (f x) (map f xs)
-Among-map f x [] h = h
-Among-map f x (y ∷ ys) (inl e) = inl (ap f e)
-Among-map f x (y ∷ ys) (inr h) = inr (Among-map f x ys h)
-
 Among-from_map : {X Y : Type 0} (f : X → Y) (y : Y) (xs : List X) → Among y (map f xs) → (x : X) × Among x xs × (f x ≡ y)
 Among-from_map f y [] h = absurd h
 Among-from_map f y (x ∷ xs) (inl e) = (x, inl refl, e)
@@ -151,16 +147,16 @@ Apart-map_append : {X Y : Type 0} (f : X → Y) (xs ys : List X) → Apart (map 
 Apart-map_append f [] ys a b none = b
 Apart-map_append {X} {Y} f (x ∷ xs) ys a b none = (
   λ among. let other = Among-from_map f (f x) (xs ++ ys) among in ⊎_elim
-      (λ k. a.0 (subst (λ (z : Y). Among z (map f xs)) other.2 (Among-map f other.0 xs k)))
+      (λ k. a.0 (subst (λ (z : Y). Among z (map f xs)) other.2 (Among-map f xs other.0 k)))
       (λ k. none x other.0 (inl refl) k (sym other.2))
-      (Among-append other.0 xs ys other.1),
+      (Among-cases other.0 xs ys other.1),
   Apart-map_append f xs ys a.1 b (λ z y h k. none z y (inr h) k),
 )
 
 -- elements that can be told apart by what is made of them are different
 pub Apart-from_map : {X Y : Type 0} (f : X → Y) (xs : List X) → Apart (map f xs) → Apart xs
 Apart-from_map f [] h = tt
-Apart-from_map f (x ∷ xs) h = (λ among. h.0 (Among-map f x xs among), Apart-from_map f xs h.1)
+Apart-from_map f (x ∷ xs) h = (λ among. h.0 (Among-map f xs x among), Apart-from_map f xs h.1)
 
 apart_option : {X Y : Type 0} (f : X → Y) (o : Option X) → Apart (map f (option_to_list o))
 apart_option f None = tt
@@ -200,12 +196,12 @@ arcs-more rows i row before after here before_is after_is =
 among_rows : (rows : List CapacityRow) (arc : LinkOf ℤ) → Among arc (arcs_of_rows rows) → (row : CapacityRow) × Among row rows × Among arc (arcs_of_row row)
 among_rows [] arc h = absurd h
 among_rows (row ∷ rows) arc h = ⊎_elim (λ k. (row, inl refl, k)) (λ k. let more = among_rows rows arc k in (more.0, inr more.1, more.2))
-    (Among-append arc (arcs_of_row row) (arcs_of_rows rows) h)
+    (Among-cases arc (arcs_of_row row) (arcs_of_rows rows) h)
 
 rows_among : (rows : List CapacityRow) (arc : LinkOf ℤ) (row : CapacityRow) → Among row rows → Among arc (arcs_of_row row) → Among arc (arcs_of_rows rows)
 rows_among [] arc row h k = absurd h
-rows_among (first ∷ rows) arc row (inl e) k = Among-append_left arc (arcs_of_row first) (arcs_of_rows rows) (subst (λ (r : CapacityRow). Among arc (arcs_of_row r)) (sym e) k)
-rows_among (first ∷ rows) arc row (inr h) k = Among-append_right arc (arcs_of_row first) (arcs_of_rows rows) (rows_among rows arc row h k)
+rows_among (first ∷ rows) arc row (inl e) k = Among-left arc (arcs_of_row first) (arcs_of_rows rows) (subst (λ (r : CapacityRow). Among arc (arcs_of_row r)) (sym e) k)
+rows_among (first ∷ rows) arc row (inr h) k = Among-right arc (arcs_of_row first) (arcs_of_rows rows) (rows_among rows arc row h k)
 
 -- the arcs of rows with different ids have different keys
 keys_apart : (rows : List CapacityRow) → Apart (map (λ (r : CapacityRow). r.id) rows) → Apart (map key (arcs_of_rows rows))
@@ -216,7 +212,7 @@ keys_apart (row ∷ rows) apart = Apart-map_append key (arcs_of_row row) (arcs_o
     let behind = row_edge later.0 y later.2 in
     let one : x.edge ≡ y.edge = ap (λ (p : ℤ × (ℤ × ℤ)). p.0) same in
     let P : ℤ → Type 0 = λ id. Among id (map (λ (r : CapacityRow). r.id) rows) in
-    apart.0 (subst P (sym behind ∙ (sym one ∙ here)) (Among-map (λ (r : CapacityRow). r.id) later.0 rows later.1)))
+    apart.0 (subst P (sym behind ∙ (sym one ∙ here)) (Among-map (λ (r : CapacityRow). r.id) rows later.0 later.1)))
 
 pub apart_keys : (rows : List CapacityRow) → IsWithoutRepeats (map (λ (r : CapacityRow). r.id) rows) → Apart (map key (arcs_of_rows rows))
 apart_keys rows ids = keys_apart rows (Apart-from_IsWithoutRepeats (map (λ (r : CapacityRow). r.id) rows) ids)
@@ -234,10 +230,10 @@ rows_sum (row ∷ rows) =
 -- they are the arcs of the table
 pub table_from_rows : (rows : List CapacityRow) (arc : LinkOf ℤ) → Contains (arcs_of_rows rows) arc → IsArcOfTable rows arc
 table_from_rows rows arc h =
-    let at = among_rows rows arc (Among-from_Contains (arcs_of_rows rows) arc h) in
-    let place = Contains-from_Among rows at.0 at.1 in
+    let at = among_rows rows arc (Among-from_Contains arc (arcs_of_rows rows) h) in
+    let place = Contains-from_Among at.0 rows at.1 in
     (place.0, at.0, place.1, place.2, row_gives at.0 arc at.2)
 
 pub rows_from_table : (rows : List CapacityRow) (arc : LinkOf ℤ) → IsArcOfTable rows arc → Contains (arcs_of_rows rows) arc
-rows_from_table rows arc has = Contains-from_Among (arcs_of_rows rows) arc
-    (rows_among rows arc has.1 (Among-from_Contains rows has.1 (has.0, has.2, has.3)) (gives_row has.1 arc has.4))
+rows_from_table rows arc has = Contains-from_Among arc (arcs_of_rows rows)
+    (rows_among rows arc has.1 (Among-from_Contains has.1 rows (has.0, has.2, has.3)) (gives_row has.1 arc has.4))

@@ -11,10 +11,11 @@ use Rattle.std.proofs.lemmas.Map.Lookups.{exact_pairs, exact_signed}
 use Rattle.std.proofs.Math.ListN.{get_or-map}
 use Rattle.pgr_outside.specs.Lists.{IsWithoutRepeats, IsStrictlyRising}
 use Rattle.pgr_walks.specs.declared.link.LinkOf.{LinkOf}
+use Rattle.pgr_walks.specs.Link.{arc_cmp}
 use Rattle.pgr_walks.proofs.Repeats.{Apart, IsWithoutRepeats-from_Apart}
 use Rattle.pgr_walks.proofs.Rising.{rising_from_permutation}
 use Rattle.pgr_table.specs.declared.row.CapacityRow.{CapacityRow}
-use Rattle.pgr_graph.specs.Arcs.{IsArcOfTable, arc_cmp}
+use Rattle.pgr_graph.specs.Arcs.{IsArcOfTable}
 use Rattle.pgr_graph.proofs.ArcLists.{key, arcs_of_rows, apart_keys, table_from_rows, rows_from_table}
 
 -- the order of keys, and that different keys aren't equal in it

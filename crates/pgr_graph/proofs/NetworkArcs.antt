@@ -11,15 +11,17 @@ use Rattle.std.proofs.lemmas.Option.{slice_get-get_or}
 use Rattle.std.proofs.Math.ListN.{get_or-map}
 use Rattle.pgr_outside.specs.Lists.{IsWithoutRepeats, IsStrictlyRising}
 use Rattle.pgr_walks.specs.declared.link.LinkOf.{LinkOf}
+use Rattle.pgr_walks.specs.Link.{arc_cmp}
 use Rattle.pgr_walks.specs.ListGraph.{HasEndsBelow}
 use Rattle.pgr_walks.specs.Walk.{cost_of}
 use Rattle.pgr_walks.proofs.Repeats.{Apart-from_IsWithoutRepeats}
+use Rattle.pgr_walks.proofs.Membership.{Among-from_Contains, Contains-from_Among}
 use Rattle.pgr_table.specs.declared.row.CapacityRow.{CapacityRow}
 use Rattle.pgr_table.specs.Capacities.{AreCapacities}
 use Rattle.pgr_graph.specs.declared.links.Direction.{Direction}
 use Rattle.pgr_graph.specs.declared.links.Direction.TheVariants.{Forward, Backward}
-use Rattle.pgr_graph.specs.Arcs.{arc_along, IsArcOfRow, IsArcOfTable, arc_cmp, AreNetworkArcs, renamed}
-use Rattle.pgr_graph.proofs.OneCost.{same_cost, Among-from_Contains, Contains-from_Among}
+use Rattle.pgr_graph.specs.Arcs.{arc_along, IsArcOfRow, IsArcOfTable, AreNetworkArcs, renamed}
+use Rattle.pgr_graph.proofs.OneCost.{same_cost}
 use Rattle.pgr_graph.proofs.ArcLists.{key, arcs_of_rows, apart_keys, Apart-from_map, table_from_rows, rows_from_table, rows_sum}
 
 -- the sum of capacities is what the arcs cost as links
@@ -68,8 +70,8 @@ module _ (rows : List CapacityRow) (accepted : AreCapacities rows) (arcs : List 
   total : cost_of arcs ≡ cost_of (arcs_of_rows rows)
   total = same_cost arcs (arcs_of_rows rows) (Apart-from_IsWithoutRepeats arcs (rising_once arcs rising)) (Apart-from_map key (arcs_of_rows rows)
       (apart_keys rows accepted.distinct))
-      (λ arc among. Among-from_Contains (arcs_of_rows rows) arc (rows_from_table rows arc ((exactly arc).0 (Contains-from_Among arcs arc among))))
-      (λ arc among. Among-from_Contains arcs arc ((exactly arc).1 (table_from_rows rows arc (Contains-from_Among (arcs_of_rows rows) arc among))))
+      (λ arc among. Among-from_Contains arc (arcs_of_rows rows) (rows_from_table rows arc ((exactly arc).0 (Contains-from_Among arc arcs among))))
+      (λ arc among. Among-from_Contains arc arcs ((exactly arc).1 (table_from_rows rows arc (Contains-from_Among arc (arcs_of_rows rows) among))))
 
   pub table_network : AreNetworkArcs int_cmp arcs
   table_network = record {

@@ -1,7 +1,6 @@
 -- What the links of a table cost, however they are listed: lists without repeats that have the same elements have the same sum, and
 -- one such list is made row by row.
-use Rattle.std.proofs.Common.{◌≡◌, ◌≢◌, ℕ, zero, suc, ◌+◌, ◌*◌, ◌<◌, length, ◌⊎◌, ◌↔◌, inl, inr, ⊎_elim, ℤ, pos, negsuc, List, [], ◌∷◌, ◌++◌, map, Bool, true, false, if◌then◌else◌, refl, sym, ap, subst, ◌∙◌, arith}
-use Rattle.std.specs.Prelude.{slice_index_or}
+use Rattle.std.proofs.Common.{◌≡◌, ◌≢◌, ℕ, ◌+◌, ◌*◌, ◌⊎◌, ◌↔◌, inl, inr, ⊎_elim, ℤ, pos, negsuc, List, [], ◌∷◌, ◌++◌, map, Bool, true, false, if◌then◌else◌, refl, sym, ap, subst, ◌∙◌, arith}
 use Rattle.std.specs.List.{Contains}
 use Rattle.std.specs.Ordering.{int_eq}
 use Rattle.std.proofs.lemmas.Bool.Decides.{Decides-int_eq}
@@ -10,6 +9,8 @@ use Rattle.pgr_outside.specs.Lists.{IsWithoutRepeats}
 use Rattle.pgr_walks.specs.declared.link.LinkOf.{LinkOf}
 use Rattle.pgr_walks.specs.Walk.{cost_of}
 use Rattle.pgr_walks.proofs.Repeats.{Among, Apart, Apart-from_IsWithoutRepeats}
+use Rattle.pgr_walks.proofs.Membership.{Among-from_Contains, Contains-from_Among, Among-left, Among-right, Among-cases, Among-map}
+use Rattle.pgr_walks.proofs.BackWalks.{cost_of-append}
 use Rattle.pgr_table.specs.declared.row.EdgeRow.{EdgeRow}
 use Rattle.pgr_table.specs.Rows.{counted}
 use Rattle.pgr_graph.specs.declared.links.Direction.{Direction}
@@ -63,45 +64,12 @@ same_cost (x ∷ xs) ys a b to from =
     (from link (rest.1.kept link among))) in
     omega arith
 
--- an element of a list, by places and by cases
-pub Among-from_Contains : {X : Type 0} (xs : List X) (x : X) → Contains xs x → Among x xs
-Among-from_Contains {X} xs x h = at xs h.0 h.1 h.2
-  where
-    at : (xs : List X) (k : ℕ) → k < length xs → slice_index_or xs k x ≡ x → Among x xs
-    at [] k below e = absurd (omega arith)
-    at (y ∷ ys) zero below e = inl e
-    at (y ∷ ys) (suc k) below e = inr (at ys k (omega arith) e)
-
-pub Contains-from_Among : {X : Type 0} (xs : List X) (x : X) → Among x xs → Contains xs x
-Contains-from_Among [] x h = absurd h
-Contains-from_Among (y ∷ ys) x (inl e) = (0, omega arith, e)
-Contains-from_Among (y ∷ ys) x (inr h) = let c = Contains-from_Among ys x h in (suc c.0, omega (arith, c.1), c.2)
-
--- an element of a list put behind another
-pub Among-append_left : {X : Type 0} (x : X) (xs ys : List X) → Among x xs → Among x (xs ++ ys)
-Among-append_left x [] ys h = absurd h
-Among-append_left x (z ∷ xs) ys (inl e) = inl e
-Among-append_left x (z ∷ xs) ys (inr h) = inr (Among-append_left x xs ys h)
-
-pub Among-append_right : {X : Type 0} (x : X) (xs ys : List X) → Among x ys → Among x (xs ++ ys)
-Among-append_right x [] ys h = h
-Among-append_right x (z ∷ xs) ys h = inr (Among-append_right x xs ys h)
-
-pub Among-append : {X : Type 0} (x : X) (xs ys : List X) → Among x (xs ++ ys) → Among x xs ⊎ Among x ys
-Among-append x [] ys h = inr h
-Among-append x (z ∷ xs) ys (inl e) = inl (inl e)
-Among-append x (z ∷ xs) ys (inr h) = ⊎_elim (λ k. inl (inr k)) inr (Among-append x xs ys h)
-
 Apart-append : {X : Type 0} (xs ys : List X) → Apart xs → Apart ys → ((x : X) → Among x xs → Among x ys → ⊥) → Apart (xs ++ ys)
 Apart-append [] ys a b none = b
 Apart-append (x ∷ xs) ys a b none = (
-  λ among. ⊎_elim a.0 (none x (inl refl)) (Among-append x xs ys among),
+  λ among. ⊎_elim a.0 (none x (inl refl)) (Among-cases x xs ys among),
   Apart-append xs ys a.1 b (λ z h k. none z (inr h) k),
 )
-
-pub cost_of-append : (xs ys : List (LinkOf ℤ)) → cost_of (xs ++ ys) ≡ cost_of xs + cost_of ys
-cost_of-append [] ys = omega arith
-cost_of-append (x ∷ xs) ys = let more = cost_of-append xs ys in omega arith
 
 -- a cost that isn't negative, as a list; and two of them, equal ones once
 abbrev there : ℤ → List ℕ
@@ -152,7 +120,7 @@ among_once cost reverse_cost n = by (int_eq cost reverse_cost)
   where
     by : (b : Bool) → Among n (once_by b cost reverse_cost) → (cost ≡ pos n) ⊎ (reverse_cost ≡ pos n)
     by true h = inl (among_there cost n h)
-    by false h = ⊎_elim (λ k. inl (among_there cost n k)) (λ k. inr (among_there reverse_cost n k)) (Among-append n (there cost) (there reverse_cost) h)
+    by false h = ⊎_elim (λ k. inl (among_there cost n k)) (λ k. inr (among_there reverse_cost n k)) (Among-cases n (there cost) (there reverse_cost) h)
 
 once_among : (cost reverse_cost : ℤ) (n : ℕ) → (cost ≡ pos n) ⊎ (reverse_cost ≡ pos n) → Among n (once cost reverse_cost)
 once_among cost reverse_cost n has = by (int_eq cost reverse_cost) (Decides-int_eq cost reverse_cost).0 has
@@ -160,8 +128,8 @@ once_among cost reverse_cost n has = by (int_eq cost reverse_cost) (Decides-int_
     by : (b : Bool) → (b ≡ true → cost ≡ reverse_cost) → (cost ≡ pos n) ⊎ (reverse_cost ≡ pos n) → Among n (once_by b cost reverse_cost)
     by true same (inl e) = there_among cost n e
     by true same (inr e) = there_among cost n (same refl ∙ e)
-    by false same (inl e) = Among-append_left n (there cost) (there reverse_cost) (there_among cost n e)
-    by false same (inr e) = Among-append_right n (there cost) (there reverse_cost) (there_among reverse_cost n e)
+    by false same (inl e) = Among-left n (there cost) (there reverse_cost) (there_among cost n e)
+    by false same (inr e) = Among-right n (there cost) (there reverse_cost) (there_among reverse_cost n e)
 
 apart_once : (cost reverse_cost : ℤ) → Apart (once cost reverse_cost)
 apart_once cost reverse_cost = by (int_eq cost reverse_cost) (Decides-int_eq cost reverse_cost).1
@@ -264,12 +232,12 @@ given_by true false row link same h =
 given_by false true row link same h = ⊎_elim
     (λ k. let a = among_along row Forward (there row.cost) link k in (Forward, among_there row.cost link.cost a.0, a.1))
     (λ k. let a = among_along row Backward (there row.reverse_cost) link k in (Backward, among_there row.reverse_cost link.cost a.0, a.1))
-    (Among-append link (along row Forward (there row.cost)) (along row Backward (there row.reverse_cost)) h)
+    (Among-cases link (along row Forward (there row.cost)) (along row Backward (there row.reverse_cost)) h)
 given_by false false row link same h =
     let ns = once row.cost row.reverse_cost in ⊎_elim
     (λ k. let a = among_along row Forward ns link k in (Forward, among_once row.cost row.reverse_cost link.cost a.0, a.1))
     (λ k. let a = among_along row Backward ns link k in (Backward, among_once row.cost row.reverse_cost link.cost a.0, a.1))
-    (Among-append link (along row Forward ns) (along row Backward ns) h)
+    (Among-cases link (along row Forward ns) (along row Backward ns) h)
 
 -- a link along a row stands among those with its cost
 stands : (row : EdgeRow) (direction : Direction) (ns : List ℕ) (link : LinkOf ℤ) → Among link.cost ns → link ≡ link_along row direction link.cost
@@ -284,16 +252,16 @@ by_given true true row link same Backward sense is = stands row Forward (once ro
 by_given true false row link same Forward sense is = stands row Forward (once row.cost row.reverse_cost) link (once_among row.cost row.reverse_cost link.cost sense) is
 by_given true false row link same Backward sense is = stands row Forward (once row.cost row.reverse_cost) link (once_among row.cost row.reverse_cost link.cost sense)
     (is ∙ same_ways row link.cost (same refl))
-by_given false true row link same Forward sense is = Among-append_left link (along row Forward (there row.cost)) (along row Backward (there row.reverse_cost))
+by_given false true row link same Forward sense is = Among-left link (along row Forward (there row.cost)) (along row Backward (there row.reverse_cost))
     (stands row Forward (there row.cost) link (there_among row.cost link.cost sense) is)
-by_given false true row link same Backward sense is = Among-append_right link (along row Forward (there row.cost)) (along row Backward (there row.reverse_cost))
+by_given false true row link same Backward sense is = Among-right link (along row Forward (there row.cost)) (along row Backward (there row.reverse_cost))
     (stands row Backward (there row.reverse_cost) link (there_among row.reverse_cost link.cost sense) is)
 by_given false false row link same Forward sense is =
     let ns = once row.cost row.reverse_cost in
-    Among-append_left link (along row Forward ns) (along row Backward ns) (stands row Forward ns link (once_among row.cost row.reverse_cost link.cost sense) is)
+    Among-left link (along row Forward ns) (along row Backward ns) (stands row Forward ns link (once_among row.cost row.reverse_cost link.cost sense) is)
 by_given false false row link same Backward sense is =
     let ns = once row.cost row.reverse_cost in
-    Among-append_right link (along row Forward ns) (along row Backward ns) (stands row Backward ns link (once_among row.cost row.reverse_cost link.cost sense) is)
+    Among-right link (along row Forward ns) (along row Backward ns) (stands row Backward ns link (once_among row.cost row.reverse_cost link.cost sense) is)
 
 -- each link of a row has its edge
 edge_by : (loop directed : Bool) (row : EdgeRow) (link : LinkOf ℤ) → (loop ≡ true → row.source ≡ row.target) → Among link (links_by loop directed row) → link.edge ≡ row.id
@@ -329,19 +297,14 @@ among_table : (directed : Bool) (rows : List EdgeRow) (link : LinkOf ℤ) → Am
     → (row : EdgeRow) × Among row rows × Among link (links_row directed row)
 among_table directed [] link h = absurd h
 among_table directed (row ∷ rows) link h = ⊎_elim (λ k. (row, inl refl, k)) (λ k. let more = among_table directed rows link k in (more.0, inr more.1, more.2))
-    (Among-append link (links_row directed row) (links_table directed rows) h)
+    (Among-cases link (links_row directed row) (links_table directed rows) h)
 
 table_among : (directed : Bool) (rows : List EdgeRow) (link : LinkOf ℤ) (row : EdgeRow) → Among row rows → Among link (links_row directed row)
     → Among link (links_table directed rows)
 table_among directed [] link row h k = absurd h
-table_among directed (first ∷ rows) link row (inl e) k = Among-append_left link (links_row directed first) (links_table directed rows)
+table_among directed (first ∷ rows) link row (inl e) k = Among-left link (links_row directed first) (links_table directed rows)
     (subst (λ (r : EdgeRow). Among link (links_row directed r)) (sym e) k)
-table_among directed (first ∷ rows) link row (inr h) k = Among-append_right link (links_row directed first) (links_table directed rows) (table_among directed rows link row h k)
-
-Among-id : (row : EdgeRow) (rows : List EdgeRow) → Among row rows → Among row.id (map (λ (r : EdgeRow). r.id) rows)
-Among-id row [] h = h
-Among-id row (first ∷ rows) (inl e) = inl (ap (λ (r : EdgeRow). r.id) e)
-Among-id row (first ∷ rows) (inr h) = inr (Among-id row rows h)
+table_among directed (first ∷ rows) link row (inr h) k = Among-right link (links_row directed first) (links_table directed rows) (table_among directed rows link row h k)
 
 apart_table : (directed : Bool) (rows : List EdgeRow) → Apart (map (λ (r : EdgeRow). r.id) rows) → Apart (links_table directed rows)
 apart_table directed [] apart = tt
@@ -350,18 +313,18 @@ apart_table directed (row ∷ rows) apart = Apart-append (links_row directed row
     let later = among_table directed rows link k in
     let here = edge_by (int_eq row.source row.target) directed row link (loop_yes row) h in
     let behind = edge_by (int_eq later.0.source later.0.target) directed later.0 link (loop_yes later.0) later.2 in
-    apart.0 (subst (λ (id : ℤ). Among id (map (λ (r : EdgeRow). r.id) rows)) (sym behind ∙ here) (Among-id later.0 rows later.1)))
+    apart.0 (subst (λ (id : ℤ). Among id (map (λ (r : EdgeRow). r.id) rows)) (sym behind ∙ here) (Among-map (λ (r : EdgeRow). r.id) rows later.0 later.1)))
 
 -- the links of the table are those of its rows
 given_table : (directed : Bool) (rows : List EdgeRow) (link : LinkOf ℤ) → Among link (links_table directed rows) → IsLinkOfTable rows directed link
 given_table directed rows link h =
     let at = among_table directed rows link h in
-    let place = Contains-from_Among rows at.0 at.1 in
+    let place = Contains-from_Among at.0 rows at.1 in
     (place.0, at.0, place.1, place.2, given_by (int_eq at.0.source at.0.target) directed at.0 link (loop_yes at.0) at.2)
 
 table_given : (directed : Bool) (rows : List EdgeRow) (link : LinkOf ℤ) → IsLinkOfTable rows directed link → Among link (links_table directed rows)
 table_given directed rows link has =
-    table_among directed rows link has.1 (Among-from_Contains rows has.1 (has.0, has.2, has.3))
+    table_among directed rows link has.1 (Among-from_Contains has.1 rows (has.0, has.2, has.3))
     (by_given (int_eq has.1.source has.1.target) directed has.1 link (loop_yes has.1) has.4.0 has.4.1 has.4.2)
 
 -- links that are those of a table, each once, cost what its rows say
@@ -369,6 +332,6 @@ pub one_cost : (rows : List EdgeRow) (directed : Bool) (links : List (LinkOf ℤ
     → ((link : LinkOf ℤ) → Contains links link ↔ IsLinkOfTable rows directed link) → cost_of links ≡ table_cost directed rows
 one_cost rows directed links ids apart are = same_cost links (links_table directed rows) (Apart-from_IsWithoutRepeats links apart)
     (apart_table directed rows (Apart-from_IsWithoutRepeats (map (λ (r : EdgeRow). r.id) rows) ids))
-    (λ link among. table_given directed rows link ((are link).0 (Contains-from_Among links link among)))
-    (λ link among. Among-from_Contains links link ((are link).1 (given_table directed rows link among)))
+    (λ link among. table_given directed rows link ((are link).0 (Contains-from_Among link links among)))
+    (λ link among. Among-from_Contains link links ((are link).1 (given_table directed rows link among)))
     ∙ cost_table directed rows

@@ -1,11 +1,11 @@
 -- What one more row adds to the cost of all links, and what one more list does to the fault of restrictions.
 use Rattle.std.proofs.Common.{◌≡◌, ℕ, zero, suc, ◌+◌, List, [], ◌∷◌, take, drop, length, Bool, true, false, Some, refl, ap, ◌∙◌, ℤ, slice_get, zero-add, add-one}
 use Rattle.std.proofs.lemmas.List.Sums.{sum_by-append, sum_by-cons}
+use Rattle.pgr_outside.proofs.Lists.{take_one_more}
 use Rattle.pgr_table.specs.declared.row.EdgeRow.{EdgeRow}
 use Rattle.pgr_table.specs.declared.fault.TableFault.TheVariants.{CostSum}
 use Rattle.pgr_table.specs.Restrictions.{elements_of_lists}
 use Rattle.pgr_graph.specs.Restricted.{links_cost, table_cost, is_over, first_over}
-use Rattle.pgr_graph.proofs.TableLinks.{take_one_more}
 
 -- the cost of the rows so far with one more
 pub table_cost-more : (directed : Bool) (rows : List EdgeRow) (i : ℕ) (row : EdgeRow) → slice_get rows i ≡ Some row

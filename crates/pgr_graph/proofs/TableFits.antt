@@ -7,6 +7,7 @@ use Rattle.pgr_walks.specs.declared.link.LinkOf.{LinkOf}
 use Rattle.pgr_walks.specs.Walk.{IsWalk, cost_of, vertices_of}
 use Rattle.pgr_walks.specs.Graph.{Fits}
 use Rattle.pgr_walks.proofs.Repeats.{Among, Apart, Apart-from_IsWithoutRepeats}
+use Rattle.pgr_walks.proofs.Membership.{Among-map}
 use Rattle.pgr_table.specs.declared.row.EdgeRow.{EdgeRow}
 use Rattle.pgr_table.specs.Rows.{counted}
 use Rattle.pgr_table.specs.Edges.{AreAccepted}
@@ -42,11 +43,6 @@ links_meet directed row a b g h =
     let end = ap (λ (l : LinkOf ℤ). l.to) h.2 in
     ⊎_elim (λ e. inl (end ∙ (e ∙ sym from))) (λ e. inr (end ∙ (e ∙ sym to))) (along_meet row g.0 h.0 a.cost b.cost)
 
-Among-map : {X Y : Type 0} (f : X → Y) (x : X) (xs : List X) → Among x xs → Among (f x) (map f xs)
-Among-map f x [] h = h
-Among-map f x (y ∷ ys) (inl e) = inl (ap f e)
-Among-map f x (y ∷ ys) (inr h) = inr (Among-map f x ys h)
-
 -- a sum of numbers is what stands at a place and the sum of the others
 sum_without : (ws : List ℕ) (k : ℕ) → k < length ws → sum (set ws k 0) + get_or ws k 0 ≡ sum ws
 sum_without ws k inside = let h = sum_by-set (λ w. w) ws k 0 0 inside in omega arith
@@ -65,7 +61,7 @@ rest_covered rows directed link rest ws k row inside at gives apart covers other
     (λ (same : j ≡ k).
     let same_row : other_row ≡ row = sym j_at ∙ (ap (λ i. get_or rows i other_row) same ∙ (get_or_default rows k other_row row inside ∙ at)) in
     let P : EdgeRow → Type 0 = λ r. IsLinkOfRow directed r other in
-    let behind = Among-map (λ (l : LinkOf ℤ). l.to) other rest among in
+    let behind = Among-map (λ (l : LinkOf ℤ). l.to) rest other among in
     let Q : ℤ → Type 0 = λ v. Among v (map (λ (l : LinkOf ℤ). l.to) rest) in
     absurd (⊎_elim (λ e. apart.0 (inr (subst Q e behind))) (λ e. apart.1.0 (subst Q e behind)) (links_meet directed row link other gives (subst P same_row other_gives))))
     (λ differ. let kept = get_or-set_other ws k j 0 0 differ in let h = covers other (inr among) j other_row j_inside j_at other_gives in omega arith)

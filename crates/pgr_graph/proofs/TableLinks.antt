@@ -1,38 +1,23 @@
 -- The links of the rows read so far, and of a table: once sorted and without repeats they rise strictly.
-use Rattle.std.proofs.Common.{◌≡◌, ℕ, ◌+◌, ◌≤◌, ◌⊎◌, ◌↔◌, inl, inr, ⊎_elim, ℤ, List, [], ◌∷◌, ◌++◌, length, take, Bool, true, ◌&&◌, nat_eq, rules, Some, slice_get, sym, ap, subst, ◌∙◌, arith}
+use Rattle.std.proofs.Common.{◌≡◌, ℕ, ◌+◌, ◌≤◌, ◌⊎◌, ◌↔◌, inl, inr, ⊎_elim, ℤ, List, [], ◌∷◌, length, take, Bool, true, ◌&&◌, nat_eq, rules, Some, slice_get, sym, subst, ◌∙◌, arith}
 use Rattle.std.specs.Ordering.{int_cmp, int_eq, eq_by_cmp}
 use Rattle.std.specs.Cmp.Rules.{comparing}
 use Rattle.std.specs.Cmp.{IsEquivalence, Equal-is}
 use Rattle.std.specs.List.{Any, Contains, dedup}
 use Rattle.std.specs.List.Sorted.{IsSorted, IsPermutation, IsStrictlySortedBy}
 use Rattle.std.proofs.lemmas.Cmp.{int_cmp_total, eq_by_cmp_equiv}
-use Rattle.std.proofs.lemmas.List.{take_more, take_all}
-use Rattle.std.proofs.lemmas.Option.{get_or_from_slice_get, slice_get_within}
-use Rattle.std.proofs.lemmas.List.Elements.{Contains-append_left, Contains-push, Contains-push_cases}
+use Rattle.std.proofs.lemmas.List.{take_all}
 use Rattle.std.proofs.lemmas.List.Sorted.{Contains-permutation, IsPermutation-sym}
 use Rattle.std.proofs.lemmas.List.Kept.{Contains-dedup, Contains-from_dedup, IsStrictlySortedBy-dedup}
 use Rattle.std.proofs.lemmas.Map.Keys.{Less-from_sorted}
+use Rattle.std.proofs.lemmas.List.Quantifiers.{Any-push}
+use Rattle.pgr_outside.proofs.Lists.{Any-append_left, Any-push_cases, take_one_more}
 use Rattle.pgr_walks.specs.declared.link.LinkOf.{LinkOf}
 use Rattle.pgr_walks.specs.Link.{link_cmp}
 use Rattle.pgr_walks.specs.Graph.{IsStrictlyRising}
 use Rattle.pgr_walks.specs.LinkOrders.{link_total, link_tie, int_tie}
 use Rattle.pgr_table.specs.declared.row.EdgeRow.{EdgeRow}
 use Rattle.pgr_graph.specs.Links.{IsLinkOfRow, IsLinkOfTable}
-
--- some element of a list with one more has the property where one of the list has it, or the one more
-Any-push_cases : {X : Type 0} (P : X → Type 0) (xs : List X) (y : X) → Any P (xs ++ y ∷ []) → Any P xs ⊎ P y
-Any-push_cases P xs y h =
-    ⊎_elim (λ k. inl (k.0, h.1, k.1, k.2, h.4)) (λ e. inr (subst P (sym e) h.4)) (Contains-push_cases xs y h.1 (h.0, h.2, h.3))
-
-Any-push_left : {X : Type 0} (P : X → Type 0) (xs : List X) (y : X) → Any P xs → Any P (xs ++ y ∷ [])
-Any-push_left P xs y h = let k = Contains-append_left xs (y ∷ []) h.1 (h.0, h.2, h.3) in (k.0, h.1, k.1, k.2, h.4)
-
-Any-push_right : {X : Type 0} (P : X → Type 0) (xs : List X) (y : X) → P y → Any P (xs ++ y ∷ [])
-Any-push_right P xs y p = let k = Contains-push xs y in (k.0, y, k.1, k.2, p)
-
-pub take_one_more : {X : Type 0} (xs : List X) (i : ℕ) (x : X) → slice_get xs i ≡ Some x → take (i + 1) xs ≡ take i xs ++ x ∷ []
-take_one_more xs i x e =
-    take_more xs i x (slice_get_within xs i x e) ∙ ap (λ y. take i xs ++ y ∷ []) (get_or_from_slice_get xs i x x e)
 
 -- the links are those of the rows
 pub AreLinksOf : List EdgeRow → Bool → List (LinkOf ℤ) → Type 0
@@ -52,7 +37,7 @@ links_more rows directed i row before after here are step link =
     let P : EdgeRow → Type 0 = λ r. IsLinkOfRow directed r link in
     let Q : List EdgeRow → Type 0 = λ rs. Any P rs in
     let e = take_one_more rows i row here in (
-      λ h. subst Q (sym e) (⊎_elim (λ k. Any-push_left P (take i rows) row ((are link).0 k)) (λ k. Any-push_right P (take i rows) row k) ((step link).0 h)),
+      λ h. subst Q (sym e) (⊎_elim (λ k. Any-append_left P (take i rows) (row ∷ []) ((are link).0 k)) (λ k. Any-push P (take i rows) row k) ((step link).0 h)),
       λ h. (step link).1 (⊎_elim (λ k. inl ((are link).1 k)) inr (Any-push_cases P (take i rows) row (subst Q e h))),
     )
 
@@ -64,10 +49,10 @@ pub parts_tie : (x y : LinkOf ℤ) → same_parts x y ≡ eq_by_cmp (link_cmp in
 parts_tie x y = search (comparing, rules)
 
 module _ (same : LinkOf ℤ → LinkOf ℤ → Bool) (ties : (x y : LinkOf ℤ) → same x y ≡ eq_by_cmp (link_cmp int_cmp) x y) where
-  same_is_equality : (x y : LinkOf ℤ) → same x y ≡ true → x ≡ y
+  pub same_is_equality : (x y : LinkOf ℤ) → same x y ≡ true → x ≡ y
   same_is_equality x y e = link_tie int_cmp int_tie x y ((Equal-is _).0 (sym (ties x y) ∙ e))
 
-  same_equivalence : IsEquivalence same
+  pub same_equivalence : IsEquivalence same
   same_equivalence = let e = eq_by_cmp_equiv (link_total int_cmp int_cmp_total) in record {
     refl = λ x. ties x x ∙ e.refl x;
     symm = λ x y. ties x y ∙ (e.symm x y ∙ sym (ties y x));

@@ -1,10 +1,10 @@
 -- The arcs of a table of capacities, between vertex ids: the links of its flow network, each with its capacity as its cost.
 use Rattle.std.specs.Prelude.{◌≡◌, ◌≢◌, ℕ, ◌<◌, ◌≤◌, ℤ, pos, List, All, Any, sum_by}
 use Rattle.std.specs.declared.cmp.Ordering.{Ordering}
-use Rattle.std.specs.Ordering.{int_cmp, ordering_then}
 use Rattle.pgr_outside.specs.Limits.{greatest}
 use Rattle.pgr_outside.specs.Lists.{IsStrictlyRising}
 use Rattle.pgr_walks.specs.declared.link.LinkOf.{LinkOf}
+use Rattle.pgr_walks.specs.Link.{arc_cmp}
 use Rattle.pgr_table.specs.declared.row.CapacityRow.{CapacityRow}
 use Rattle.pgr_graph.specs.declared.links.Direction.{Direction}
 use Rattle.pgr_graph.specs.declared.links.Direction.TheVariants.{Forward, Backward}
@@ -30,10 +30,6 @@ pub record IsArcOfRow (row : CapacityRow) (arc : LinkOf ℤ) : Type 0 where
 -- some row of the table gives the arc
 abbrev pub IsArcOfTable : List CapacityRow → LinkOf ℤ → Type 0
 IsArcOfTable rows arc = Any (λ row. IsArcOfRow row arc) rows
-
--- the order of arcs: by edge, then where they begin, then where they lead
-abbrev pub arc_cmp : {V : Type 0} → (V → V → Ordering) → LinkOf V → LinkOf V → Ordering
-arc_cmp vertex_cmp a b = ordering_then (int_cmp a.edge b.edge) (ordering_then (vertex_cmp a.from b.from) (vertex_cmp a.to b.to))
 
 -- what a flow network asks of its arcs: each leads to another vertex, their capacities are positive and have a sum of at most 2^63 - 1, and they rise
 pub record AreNetworkArcs {V : Type 0} (vertex_cmp : V → V → Ordering) (arcs : List (LinkOf V)) : Type 0 where

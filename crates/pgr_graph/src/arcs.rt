@@ -2,9 +2,10 @@ ghost use Rattle.std.specs.Prelude.{◌≡◌, ◌↔◌, ◌++◌, ◌+◌, ◌
 ghost use Rattle.std.specs.Option.{option_to_list};
 ghost use Rattle.std.specs.Ordering.{int_cmp};
 ghost use Rattle.pgr_walks.specs.declared.link.LinkOf.{LinkOf};
+ghost use Rattle.pgr_walks.specs.Link.{arc_cmp};
 ghost use Rattle.pgr_walks.specs.Graph.{IsStrictlyRising};
 ghost use Rattle.pgr_graph.specs.declared.links.Direction.TheVariants.{Forward, Backward};
-ghost use Rattle.pgr_graph.specs.Arcs.{IsArcOfTable, arc_cmp};
+ghost use Rattle.pgr_graph.specs.Arcs.{IsArcOfTable};
 ghost use Rattle.pgr_graph.specs.ArcSenses.{arc_of_sense};
 
 use crate::links::{Direction, push};

@@ -2,11 +2,12 @@ ghost use Rattle.std.specs.Prelude.{◌≡◌, ◌↔◌, ℕ, ◌<◌, ℤ, Boo
 ghost use Rattle.std.specs.Ordering.{nat_cmp, int_cmp};
 ghost use Rattle.pgr_outside.specs.Lists.{IsWithoutRepeats};
 ghost use Rattle.pgr_walks.specs.declared.link.LinkOf.{LinkOf};
+ghost use Rattle.pgr_walks.specs.Link.{arc_cmp};
 ghost use Rattle.pgr_walks.specs.Graph.{Fits, IsStrictlyRising};
 ghost use Rattle.pgr_walks.specs.Walk.{cost_of};
 ghost use Rattle.pgr_walks.specs.ListGraph.{HasEndsBelow};
 ghost use Rattle.pgr_graph.specs.Links.{IsLinkOfTable};
-ghost use Rattle.pgr_graph.specs.Arcs.{IsArcOfTable, AreNetworkArcs, arc_cmp, renamed};
+ghost use Rattle.pgr_graph.specs.Arcs.{IsArcOfTable, AreNetworkArcs, renamed};
 ghost use Rattle.pgr_graph.specs.Restricted.{table_cost};
 
 use pgr_table::{CapacityTable, EdgeTable};

@@ -1,6 +1,6 @@
 -- The ends of pointed links are ends of edges and points.
-use Rattle.std.proofs.Common.{◌≡◌, ℕ, ◌+◌, ◌*◌, ◌≤◌, ◌<◌, ◌^◌, ◌⊎◌, inl, inr, ⊎_elim, Bool, List, [], ◌∷◌, ◌++◌, length, map, ℤ, neg_ℤ, refl, sym, ap, subst, ◌∙◌, arith}
-use Rattle.std.specs.Ordering.{int_cmp, int_eq, is_eq}
+use Rattle.std.proofs.Common.{◌≡◌, ℕ, ◌<◌, ◌^◌, inl, inr, ⊎_elim, Bool, List, [], ◌∷◌, ◌++◌, length, map, ℤ, neg_ℤ, refl, sym, ap, subst, arith}
+use Rattle.std.specs.Ordering.{int_eq, is_eq}
 use Rattle.std.specs.Cmp.{signed_Decides}
 use Rattle.std.specs.List.{Contains}
 use Rattle.std.proofs.lemmas.Cmp.{int_eq_equiv}
@@ -15,7 +15,6 @@ use Rattle.pgr_walks.proofs.Repeats.{Among}
 use Rattle.pgr_numbers.specs.Names.{AreEnds}
 use Rattle.pgr_table.specs.declared.row.EdgeRow.{EdgeRow}
 use Rattle.pgr_table.specs.declared.row.PointRow.{PointRow}
-use Rattle.pgr_table.specs.Rows.{most_rows}
 use Rattle.pgr_table.specs.Edges.{AreAccepted}
 use Rattle.pgr_table.specs.Points.{ArePoints}
 use Rattle.pgr_graph.specs.declared.links.Direction.{Direction}
@@ -23,14 +22,8 @@ use Rattle.pgr_graph.specs.declared.links.Direction.TheVariants.{Forward, Backwa
 use Rattle.pgr_points.specs.declared.stop.Stop.{Stop}
 use Rattle.pgr_points.specs.Stops.{stop_at, stops, part, parts}
 use Rattle.pgr_points.specs.Pointed.{IsPartOfRow, IsPointed}
-use Rattle.pgr_walks.proofs.Membership.{Among-left, Among-right, Among-cases}
-use Rattle.pgr_walks.proofs.Membership.{Among-from_Contains, Contains-from_Among}
+use Rattle.pgr_walks.proofs.Membership.{Among-left, Among-right, Among-map, Among-from_Contains, Contains-from_Among}
 use Rattle.pgr_points.proofs.TableLemmas.{Among-from_Any}
-
-pub Among-map : {X Y : Type 0} (f : X → Y) (x : X) (xs : List X) → Among x xs → Among (f x) (map f xs)
-Among-map f x [] h = absurd h
-Among-map f x (y ∷ ys) (inl e) = inl (ap f e)
-Among-map f x (y ∷ ys) (inr h) = inr (Among-map f x ys h)
 
 vertices : List Stop → List ℤ
 vertices ss = map (λ (stop : Stop). stop.vertex) ss
@@ -56,17 +49,17 @@ module _ (rows : List EdgeRow) (points : List PointRow) where
 
   source_known : (row : EdgeRow) → Among row rows → Among row.source known
   unfolding known
-  source_known row h = Among-left row.source (map (λ (r : EdgeRow). r.source) rows) _ (Among-map (λ (r : EdgeRow). r.source) row rows h)
+  source_known row h = Among-left row.source (map (λ (r : EdgeRow). r.source) rows) _ (Among-map (λ (r : EdgeRow). r.source) rows row h)
 
   target_known : (row : EdgeRow) → Among row rows → Among row.target known
   unfolding known
   target_known row h = Among-right row.target (map (λ (r : EdgeRow). r.source) rows) _
-      (Among-left row.target (map (λ (r : EdgeRow). r.target) rows) _ (Among-map (λ (r : EdgeRow). r.target) row rows h))
+      (Among-left row.target (map (λ (r : EdgeRow). r.target) rows) _ (Among-map (λ (r : EdgeRow). r.target) rows row h))
 
   point_known : (point : PointRow) → Among point points → Among (neg_ℤ point.pid) known
   unfolding known
   point_known point h = Among-right (neg_ℤ point.pid) (map (λ (r : EdgeRow). r.source) rows) _
-      (Among-right (neg_ℤ point.pid) (map (λ (r : EdgeRow). r.target) rows) _ (Among-map (λ (p : PointRow). neg_ℤ p.pid) point points h))
+      (Among-right (neg_ℤ point.pid) (map (λ (r : EdgeRow). r.target) rows) _ (Among-map (λ (p : PointRow). neg_ℤ p.pid) points point h))
 
   behind_known : (row : EdgeRow) (cost : ℕ) (seen : List PointRow) → Among row rows → ((p : PointRow) → Among p seen → Among p points) → (v : ℤ)
       → Among v (vertices (map (stop_at cost) seen ++ record { vertex = row.target; offset = cost } ∷ [])) → Among v known

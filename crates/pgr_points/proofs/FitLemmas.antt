@@ -1,12 +1,11 @@
 -- Pointed links fit: each is a part, one way round or the other, of some column of costs, whose parts cost together what the table's costs do.
-use Rattle.std.proofs.Common.{◌≡◌, ℕ, ◌+◌, ◌≤◌, ◌⊎◌, inl, inr, ⊎_elim, Bool, true, false, List, [], ◌∷◌, ◌++◌, map, ℤ, pos, negsuc, refl, sym, ap, subst, ◌∙◌, arith}
-use Rattle.std.specs.List.{All, flat_map, sum_by}
+use Rattle.std.proofs.Common.{◌≡◌, ℕ, inl, inr, ⊎_elim, Bool, true, false, List, [], ◌∷◌, ◌++◌, ℤ, pos, negsuc, refl, sym, ap, subst, arith}
+use Rattle.std.specs.List.{All, flat_map}
 use Rattle.std.proofs.lemmas.List.Sums.{sum_by-cons}
-use Rattle.pgr_outside.specs.Lists.{IsStrictlyRising}
 use Rattle.pgr_outside.specs.declared.side.Side.{Side}
 use Rattle.pgr_walks.specs.declared.link.LinkOf.{LinkOf}
 use Rattle.pgr_walks.specs.Walk.{IsWalk, cost_of, vertices_of}
-use Rattle.pgr_walks.specs.Graph.{Fits, greatest}
+use Rattle.pgr_walks.specs.Graph.{Fits}
 use Rattle.pgr_walks.specs.Reversed.{turned}
 use Rattle.pgr_walks.proofs.Repeats.{Among, Apart-from_IsWithoutRepeats}
 use Rattle.pgr_table.specs.declared.row.EdgeRow.{EdgeRow}
@@ -19,12 +18,12 @@ use Rattle.pgr_graph.specs.declared.links.Direction.TheVariants.{Forward, Backwa
 use Rattle.pgr_graph.specs.Links.{HasSense}
 use Rattle.pgr_points.specs.declared.stop.Stop.{Stop}
 use Rattle.pgr_points.specs.Fractions.{along_cmp}
-use Rattle.pgr_points.specs.Stops.{stops, part, parts}
+use Rattle.pgr_points.specs.Stops.{stops, parts}
 use Rattle.pgr_points.specs.Pointed.{AreSeen, IsPartOfRow, IsPointed}
 use Rattle.pgr_points.specs.Places.{place_cmp}
 use Rattle.pgr_points.specs.Senses.{points_of, seen_of, parts_of_sense}
-use Rattle.pgr_walks.proofs.Membership.{Among-left, Among-right, Among-flat_map}
-use Rattle.pgr_walks.proofs.Membership.{Among-from_Contains, Contains-from_Among}
+use Rattle.pgr_walks.proofs.Membership.{Among-left, Among-right, Among-flat_map, Among-from_Contains, Contains-from_Among}
+use Rattle.pgr_walks.proofs.BackWalks.{cost_of-append}
 use Rattle.pgr_points.proofs.SameLists.{Rises, Rises-from_rising, rising-from_Rises}
 use Rattle.pgr_points.proofs.SeenLemmas.{seen_once, placed_seen, seen_good}
 use Rattle.pgr_points.proofs.RowLemmas.{sense_from}
@@ -32,10 +31,6 @@ use Rattle.pgr_points.proofs.TableLemmas.{Among-from_Any}
 use Rattle.pgr_points.proofs.Climbing.{cost_of_parts}
 use Rattle.pgr_points.proofs.Covering.{IsCovered, cost_covered, cost_of_covered}
 use Rattle.pgr_points.proofs.Arranging.{arranged, arranged_to, arranged_from, arranged_in_order}
-
-cost_of-append : {V : Type 0} (xs ys : List (LinkOf V)) → cost_of (xs ++ ys) ≡ cost_of xs + cost_of ys
-cost_of-append [] ys = omega arith
-cost_of-append (x ∷ xs) ys = let h = cost_of-append xs ys in omega arith
 
 -- the parts backward are those forward, turned round
 parts_turned : (edge : ℤ) (ss : List Stop) (link : LinkOf ℤ) → Among link (parts edge Backward ss) → Among (turned link) (parts edge Forward ss)

@@ -1,11 +1,12 @@
 -- Fractions compared by products across: an order of all points, along which offsets rise.
 use Rattle.std.proofs.Common.{◌≡◌, ℕ, ◌*◌, ◌/◌, ◌<◌, ◌≤◌, max, refl, sym, ap, subst, ◌∙◌, arith, Ordering, Less, Equal, Greater}
-use Rattle.std.specs.Ordering.{nat_cmp, int_cmp, ordering_then, MatchOrdering}
+use Rattle.std.specs.Ordering.{nat_cmp, MatchOrdering}
 use Rattle.std.specs.Cmp.{IsTotalOrder, nat_cmp_is}
 use Rattle.std.proofs.lemmas.Cmp.{ranked, int_cmp_total, nat_cmp_total, on_total, then_total}
 use Rattle.std.proofs.lemmas.Nat.{le-div}
 use Rattle.std.proofs.Math.Nat.{mul_comm, mul_assoc, mul-lt-mul_of_pos_left, mul-le-mul_left, mul-le-mul_right, le_of_mul-le-mul_right, div-mul-le_self, div-le_of_le-mul}
 use Rattle.pgr_table.specs.declared.row.PointRow.{PointRow}
+use Rattle.pgr_walks.specs.LinkOrders.{nat_tie}
 use Rattle.pgr_points.specs.Places.{value_cmp, place_cmp}
 
 -- the first and the last of three factors change places
@@ -22,9 +23,6 @@ module _ (k m n : ℕ) (some : 0 < k) where
   scaled : nat_cmp (k * m) (k * n) ≡ nat_cmp m n
   scaled = sym (nat_cmp_is (k * m) (k * n) (nat_cmp m n) (scaled_match (nat_cmp m n) (ranked m n (nat_cmp m n) refl)))
 
-same_numbers : (m n : ℕ) → nat_cmp m n ≡ Equal → m ≡ n
-same_numbers m n e = ranked m n Equal (sym e)
-
 -- fractions a / x, b / y and c / z
 module _ (a x b y c z : ℕ) (x_some : 0 < x) (y_some : 0 < y) (z_some : 0 < z) where
   less_chain : nat_cmp (a * y) (b * x) ≡ Less → nat_cmp (b * z) (c * y) ≡ Less → nat_cmp (a * z) (c * x) ≡ Less
@@ -39,7 +37,7 @@ module _ (a x b y c z : ℕ) (x_some : 0 < x) (y_some : 0 < y) (z_some : 0 < z) 
 
   same_rank : nat_cmp (a * y) (b * x) ≡ Equal → nat_cmp (a * z) (c * x) ≡ nat_cmp (b * z) (c * y)
   same_rank p =
-      let e : a * y ≡ b * x = same_numbers _ _ p in
+      let e : a * y ≡ b * x = nat_tie _ _ p in
       let left : y * (a * z) ≡ x * (b * z) = swapped y a z ∙ (ap (λ n. z * n) e ∙ swapped z b x) in
       let right : y * (c * x) ≡ x * (c * y) = swapped y c x in
       sym (scaled y (a * z) (c * x) y_some) ∙ (ap (λ n. nat_cmp n (y * (c * x))) left ∙ (ap (λ n. nat_cmp (x * (b * z)) n) right ∙ scaled x (b * z) (c * y) x_some))

@@ -1,7 +1,7 @@
 -- The parts of a link, stop by stop: what is appended and what is ahead make all of them.
-use Rattle.std.proofs.Common.{◌≡◌, ℕ, ◌+◌, ◌<◌, ◌≤◌, Bool, true, false, not, cond, List, [], ◌∷◌, ◌++◌, length, map, get_or, drop, ℤ, pos, negsuc, refl, sym, ap, subst, ◌∙◌, arith}
-use Rattle.std.proofs.lemmas.List.{append_assoc, append-nil, length-drop, get_or_default}
-use Rattle.std.specs.List.{filter, All, AllPairs}
+use Rattle.std.proofs.Common.{◌≡◌, ℕ, ◌+◌, ◌<◌, ◌≤◌, Bool, true, false, not, cond, List, [], ◌∷◌, ◌++◌, length, map, get_or, drop, ℤ, refl, sym, ap, ◌∙◌, arith}
+use Rattle.std.proofs.lemmas.List.{append_assoc, length-drop, get_or_default, drop_more, nil_from_length}
+use Rattle.std.specs.List.{All, AllPairs}
 use Rattle.pgr_outside.specs.declared.side.Side.{Side}
 use Rattle.pgr_walks.specs.declared.link.LinkOf.{LinkOf}
 use Rattle.pgr_table.specs.declared.row.EdgeRow.{EdgeRow}
@@ -11,10 +11,9 @@ use Rattle.pgr_graph.specs.declared.links.Direction.{Direction}
 use Rattle.pgr_graph.specs.declared.links.Direction.TheVariants.{Forward, Backward}
 use Rattle.pgr_points.specs.declared.stop.Stop.{Stop}
 use Rattle.pgr_points.specs.Sight.{sees}
-use Rattle.pgr_points.specs.Stops.{offset_of, stop_at, stops, part, parts}
+use Rattle.pgr_points.specs.Stops.{offset_of, stop_at, part, parts}
 use Rattle.pgr_points.specs.Senses.{seen_of, parts_of_sense, parts_of_row, AreInOrder}
 use Rattle.pgr_points.proofs.FractionLemmas.{offsets_rise, offset_within}
-use Rattle.pgr_points.proofs.Lists.{drop_one_more}
 
 -- points of one edge in order have offsets in order, each at most the cost
 pub offsets_in_order : (cost : ℕ) (a b : PointRow) → IsPoint a → IsPoint b → AreInOrder a b → offset_of cost a ≤ offset_of cost b
@@ -61,19 +60,15 @@ module _ (driving : Side) (directed : Bool) (edge : ℤ) (direction : Direction)
         let rest = drop (i + 1) points in
         let split : ahead (p ∷ rest) (last ∷ []) ≡ ahead (p ∷ []) (ahead rest (last ∷ [])) =
         first_apart (sees directed driving direction p.side) p (seen_of driving directed direction rest) (last ∷ []) in
-        let one_more : ahead (drop i points) (last ∷ []) ≡ ahead (p ∷ rest) (last ∷ []) = ap (λ xs. ahead xs (last ∷ [])) (drop_one_more points i d inside) in
+        let one_more : ahead (drop i points) (last ∷ []) ≡ ahead (p ∷ rest) (last ∷ []) = ap (λ xs. ahead xs (last ∷ [])) (drop_more points i d inside) in
         passed (ahead rest (last ∷ [])) ∙ (sym (ap (λ more. before ++ parts edge direction (stop ∷ more)) (one_more ∙ split)) ∙ so_far)
 
     -- all points are passed
     pub parts_end : (after : List (LinkOf ℤ)) → length points ≤ i → after ≡ before ++ part edge direction stop last ∷ [] → after ≡ all
     parts_end after past step =
         let size = length-drop i points in
-        let none : drop i points ≡ [] = empty (drop i points) (omega arith) in
+        let none : drop i points ≡ [] = nil_from_length (drop i points) (omega arith) in
         step ∙ (sym (ap (λ xs. before ++ parts edge direction (stop ∷ ahead xs (last ∷ []))) none) ∙ so_far)
-      where
-        empty : (xs : List PointRow) → length xs ≡ 0 → xs ≡ []
-        empty [] e = refl
-        empty (x ∷ xs) e = absurd (omega arith)
 
 -- what a row appends, sense by sense
 module _ (driving : Side) (row : EdgeRow) (points : List PointRow) (before first second : List (LinkOf ℤ)) where

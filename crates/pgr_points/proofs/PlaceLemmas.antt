@@ -1,11 +1,11 @@
 -- Points by their places: by edge and along it, each place once.
-use Rattle.std.proofs.Common.{◌≡◌, ℕ, ◌+◌, ◌*◌, ◌<◌, ◌≤◌, max, ◌⊎◌, inl, inr, ⊎_elim, Bool, true, false, List, length, map, get_or, drop, Some, slice_get, ℤ, ◌≤ℤ◌, ◌<ℤ◌, refl, sym, ap, subst, ◌∙◌, arith, Ordering, Less, Equal, Greater}
+use Rattle.std.proofs.Common.{◌≡◌, ℕ, ◌+◌, ◌*◌, ◌<◌, ◌≤◌, max, ◌⊎◌, inl, inr, ⊎_elim, true, false, List, length, map, get_or, drop, Some, slice_get, ℤ, ◌≤ℤ◌, ◌<ℤ◌, refl, sym, ap, ◌∙◌, arith, Ordering, Less, Equal, Greater}
 use Rattle.std.specs.Prelude.{int_lt, int_le}
-use Rattle.std.specs.Ordering.{nat_cmp, int_cmp, int_eq, ordering_then, ordering_reverse, is_lt, is_eq, eq_by_cmp}
-use Rattle.std.specs.Cmp.{IsTotalOrder, Equal-is}
-use Rattle.std.specs.List.{filter, All, AllPairs, IsDistinct}
+use Rattle.std.specs.Ordering.{nat_cmp, int_cmp, int_eq, ordering_then, is_lt, is_eq, eq_by_cmp}
+use Rattle.std.specs.Cmp.{Equal-is}
+use Rattle.std.specs.List.{All, AllPairs, IsDistinct}
 use Rattle.std.specs.List.Sorted.{IsSorted, IsPermutation, IsPartitionedBy}
-use Rattle.std.proofs.lemmas.Cmp.{ranked, int_ranked, eq_by_cmp_equiv}
+use Rattle.std.proofs.lemmas.Cmp.{ranked, int_ranked, eq_by_cmp_equiv, tied_itself, int_cmp_total}
 use Rattle.std.proofs.lemmas.Int.{ints}
 use Rattle.std.proofs.lemmas.Bool.{cases_Bool, cases_lt}
 use Rattle.std.proofs.lemmas.Option.{slice_get-get_or}
@@ -17,32 +17,25 @@ use Rattle.std.proofs.lemmas.Map.Keys.{IsDistinct-from_apart, IsDistinct-IsPermu
 use Rattle.pgr_outside.specs.Lists.{IsWithoutRepeats, IsStrictlyRising}
 use Rattle.pgr_table.specs.declared.row.PointRow.{PointRow}
 use Rattle.pgr_table.specs.Points.{IsPoint}
+use Rattle.pgr_walks.specs.LinkOrders.{then_tie, int_tie}
 use Rattle.pgr_walks.proofs.Rising.{less_by_rest}
 use Rattle.pgr_points.specs.Fractions.{fraction_cmp, along_cmp}
 use Rattle.pgr_points.specs.Places.{value_cmp, place_cmp}
 use Rattle.pgr_points.specs.Senses.{points_of, AreInOrder}
 use Rattle.pgr_points.proofs.FractionLemmas.{place_total}
 
--- an order after another is equal where both are, and less where the first is, or the first is equal and it is
-then_equal : (o p : Ordering) → ordering_then o p ≡ Equal → (o ≡ Equal) × (p ≡ Equal)
-then_equal Less p e = cc
-then_equal Equal p e = (refl, e)
-then_equal Greater p e = cc
-
+-- an order after another is less where the first is, or the first is equal and it is
 pub then_less : (o p : Ordering) → ordering_then o p ≡ Less → (o ≡ Less) ⊎ ((o ≡ Equal) × (p ≡ Less))
 then_less Less p e = inl refl
 then_less Equal p e = inr (refl, e)
 then_less Greater p e = cc
 
-pub same_ints : (x y : ℤ) → int_cmp x y ≡ Equal → x ≡ y
-same_ints x y e = int_ranked x y Equal (sym e)
-
 -- two points of one place have one id
 pub same_place : (a b : PointRow) → place_cmp a b ≡ Equal → a.pid ≡ b.pid
 same_place a b e =
-    let first = then_equal (int_cmp a.edge_id b.edge_id) (ordering_then (value_cmp a b) (int_cmp a.pid b.pid)) e in
-    let second = then_equal (value_cmp a b) (int_cmp a.pid b.pid) first.1 in
-    same_ints a.pid b.pid second.1
+    let first = then_tie (int_cmp a.edge_id b.edge_id) (ordering_then (value_cmp a b) (int_cmp a.pid b.pid)) e in
+    let second = then_tie (value_cmp a b) (int_cmp a.pid b.pid) first.1 in
+    int_tie a.pid b.pid second.1
 
 module _ (points : List PointRow) (once : IsWithoutRepeats (map (λ (row : PointRow). row.pid) points)) where
   pids_differ : (i j : ℕ) (d : PointRow) → i < j → j < length points → (get_or points i d).pid ≡ (get_or points j d).pid → ⊥
@@ -73,7 +66,7 @@ module _ (points : List PointRow) (once : IsWithoutRepeats (map (λ (row : Point
 edges_rise : (a b : PointRow) → place_cmp a b ≡ Less → a.edge_id ≤ℤ b.edge_id
 edges_rise a b less =
     ⊎_elim (λ e. let h : a.edge_id <ℤ b.edge_id = int_ranked a.edge_id b.edge_id Less (sym e) in omega (arith, ints))
-    (λ e. let h : a.edge_id ≡ b.edge_id = same_ints a.edge_id b.edge_id e.0 in omega (arith, ints))
+    (λ e. let h : a.edge_id ≡ b.edge_id = int_tie a.edge_id b.edge_id e.0 in omega (arith, ints))
     (then_less (int_cmp a.edge_id b.edge_id) (ordering_then (value_cmp a b) (int_cmp a.pid b.pid)) less)
 
 below_chain : (a b e : ℤ) → a ≤ℤ b → int_lt b e ≡ true → int_lt a e ≡ true
@@ -107,13 +100,10 @@ pub above_edge : (a e : ℤ) → int_le a e ≡ false → int_eq a e ≡ false
 above_edge a e high = grind (arith, ints)
 
 pub is_edge : (a e : ℤ) → int_eq a e ≡ true → a ≡ e
-is_edge a e h = same_ints a e ((Equal-is (int_cmp a e)).0 h)
-
-edges_equal : (a : ℤ) → int_cmp a a ≡ Equal
-edges_equal a = grind (arith, ints)
+is_edge a e h = int_tie a e ((Equal-is (int_cmp a e)).0 h)
 
 pub edge_is : (a e : ℤ) → a ≡ e → int_eq a e ≡ true
-edge_is a e same = ap (λ x. int_eq a x) (sym same) ∙ ap is_eq (edges_equal a)
+edge_is a e same = ap (λ x. int_eq a x) (sym same) ∙ ap is_eq (tied_itself int_cmp_total a)
 
 -- a denominator of a point is what is compared
 under_is : (point : PointRow) → IsPoint point → max point.under 1 ≡ point.under
@@ -125,7 +115,7 @@ value_is a b ga gb = ap (λ n. nat_cmp (a.over * n) (b.over * max a.under 1)) (u
 -- two points of one edge of which the first has the lesser place come in this order along it
 pub along_less : (a b : PointRow) → IsPoint a → IsPoint b → a.edge_id ≡ b.edge_id → place_cmp a b ≡ Less → along_cmp a b ≡ Less
 along_less a b ga gb same less =
-    let same_edge : int_cmp a.edge_id b.edge_id ≡ Equal = ap (λ e. int_cmp a.edge_id e) (sym same) ∙ edges_equal a.edge_id in
+    let same_edge : int_cmp a.edge_id b.edge_id ≡ Equal = ap (λ e. int_cmp a.edge_id e) (sym same) ∙ tied_itself int_cmp_total a.edge_id in
     let rest : ordering_then (value_cmp a b) (int_cmp a.pid b.pid) ≡ Less =
     sym (ap (λ o. ordering_then o (ordering_then (value_cmp a b) (int_cmp a.pid b.pid))) same_edge) ∙ less in
     sym (ap (λ o. ordering_then o (int_cmp a.pid b.pid)) (value_is a b ga gb)) ∙ rest

@@ -1,19 +1,14 @@
 -- The parts of all rows, sorted and without repeats, are the pointed links, each once and rising.
-use Rattle.std.proofs.Common.{◌≡◌, ℕ, ◌≤◌, ◌↔◌, ℤ, Bool, true, ◌&&◌, nat_eq, ◌+◌, List, [], ◌++◌, length, take, Some, slice_get, refl, rules, sym, ap, subst, ◌∙◌, arith}
-use Rattle.std.specs.Ordering.{int_cmp, int_eq, eq_by_cmp}
-use Rattle.std.specs.Cmp.Rules.{comparing}
-use Rattle.std.specs.Cmp.{IsEquivalence, Equal-is}
+use Rattle.std.proofs.Common.{◌≡◌, ℕ, ◌↔◌, ℤ, Bool, ◌+◌, List, [], ◌++◌, take, Some, slice_get, refl, sym, subst}
+use Rattle.std.specs.Ordering.{int_cmp, eq_by_cmp}
 use Rattle.std.specs.List.{Any, Contains, All, dedup, flat_map}
-use Rattle.std.specs.List.Sorted.{IsSorted, IsPermutation, IsStrictlySortedBy}
-use Rattle.std.proofs.lemmas.Cmp.{int_cmp_total, eq_by_cmp_equiv}
+use Rattle.std.specs.List.Sorted.{IsPermutation}
 use Rattle.std.proofs.lemmas.List.Sorted.{Contains-permutation, IsPermutation-sym}
-use Rattle.std.proofs.lemmas.List.Kept.{Contains-dedup, Contains-from_dedup, IsStrictlySortedBy-dedup}
-use Rattle.std.proofs.lemmas.Map.Keys.{Less-from_sorted}
+use Rattle.std.proofs.lemmas.List.Kept.{Contains-dedup, Contains-from_dedup}
 use Rattle.pgr_outside.specs.Lists.{IsStrictlyRising}
 use Rattle.pgr_outside.specs.declared.side.Side.{Side}
 use Rattle.pgr_walks.specs.declared.link.LinkOf.{LinkOf}
 use Rattle.pgr_walks.specs.Link.{link_cmp}
-use Rattle.pgr_walks.specs.LinkOrders.{link_total, link_tie, int_tie}
 use Rattle.pgr_walks.proofs.Repeats.{Among}
 use Rattle.pgr_table.specs.declared.row.EdgeRow.{EdgeRow}
 use Rattle.pgr_table.specs.declared.row.PointRow.{PointRow}
@@ -21,9 +16,9 @@ use Rattle.pgr_table.specs.Points.{IsPoint}
 use Rattle.pgr_points.specs.Pointed.{IsPartOfRow, IsPointed}
 use Rattle.pgr_points.specs.Places.{place_cmp}
 use Rattle.pgr_points.specs.Senses.{points_of, parts_of_row}
-use Rattle.pgr_walks.proofs.Membership.{Among-flat_map, Among-from_flat_map}
+use Rattle.pgr_walks.proofs.Membership.{Among-flat_map, Among-from_flat_map, Among-from_Contains, Contains-from_Among}
 use Rattle.pgr_points.proofs.Lists.{flat_map_one_more}
-use Rattle.pgr_walks.proofs.Membership.{Among-from_Contains, Contains-from_Among}
+use Rattle.pgr_graph.proofs.TableLinks.{same_is_equality, same_equivalence}
 use Rattle.pgr_points.proofs.RowLemmas.{row_from, row_to}
 
 -- some element has the property, by cases on the list
@@ -70,24 +65,7 @@ module _ (points : List PointRow) (driving : Side) (directed : Bool) (placed : L
       Among-flat_map (λ (row : EdgeRow). parts_of_row driving directed row (points_of row.id placed)) rows h.1 link
       (Among-from_Any (λ row. IsPartOfRow points driving directed row link) rows h) (row_to points driving h.1 link placed rise good there back directed h.4)
 
--- links are the same where all their parts are
-abbrev same_parts : LinkOf ℤ → LinkOf ℤ → Bool
-same_parts x y = int_eq x.from y.from && (int_eq x.edge y.edge && (nat_eq x.cost y.cost && int_eq x.to y.to))
-
-pub parts_tie : (x y : LinkOf ℤ) → same_parts x y ≡ eq_by_cmp (link_cmp int_cmp) x y
-parts_tie x y = search (comparing, rules)
-
 module _ (same : LinkOf ℤ → LinkOf ℤ → Bool) (ties : (x y : LinkOf ℤ) → same x y ≡ eq_by_cmp (link_cmp int_cmp) x y) where
-  same_is_equality : (x y : LinkOf ℤ) → same x y ≡ true → x ≡ y
-  same_is_equality x y e = link_tie int_cmp int_tie x y ((Equal-is _).0 (sym (ties x y) ∙ e))
-
-  same_equivalence : IsEquivalence same
-  same_equivalence = let e = eq_by_cmp_equiv (link_total int_cmp int_cmp_total) in record {
-    refl = λ x. ties x x ∙ e.refl x;
-    symm = λ x y. ties x y ∙ (e.symm x y ∙ sym (ties y x));
-    congr = λ x y z h. ties x z ∙ (e.congr x y z (sym (ties x y) ∙ h) ∙ sym (ties y z));
-  }
-
   -- a sort and a `dedup` keep the links
   pub links_kept : (points : List PointRow) (driving : Side) (directed : Bool) (placed : List PointRow) (rise : IsStrictlyRising place_cmp placed) (good : All IsPoint placed)
       (moved : IsPermutation points placed) (rows : List EdgeRow) (links sorted last : List (LinkOf ℤ)) → links ≡ parts_of_rows driving directed placed rows
@@ -97,12 +75,6 @@ module _ (same : LinkOf ℤ → LinkOf ℤ → Bool) (ties : (x y : LinkOf ℤ) 
       let Q : List (LinkOf ℤ) → Type 0 = λ ls. Among link ls in (
         λ h. pointed_from points driving directed placed rise good moved rows link (subst Q are (Among-from_Contains link links
             (Contains-permutation sorted links link (IsPermutation-sym links sorted sorted_is) (Contains-from_dedup same sorted link (subst P last_is h))))),
-        λ h. subst P (sym last_is) (Contains-dedup same_equivalence same_is_equality sorted link (Contains-permutation links sorted link sorted_is
+        λ h. subst P (sym last_is) (Contains-dedup (same_equivalence same ties) (same_is_equality same ties) sorted link (Contains-permutation links sorted link sorted_is
             (Contains-from_Among link links (subst Q (sym are) (pointed_to points driving directed placed rise good moved rows link h))))),
       )
-
-  -- and leave them rising strictly
-  pub links_rise : (sorted last : List (LinkOf ℤ)) → IsSorted (link_cmp int_cmp) sorted → last ≡ dedup same sorted → IsStrictlyRising (link_cmp int_cmp) last
-  links_rise sorted last in_order last_is i j d before inside =
-      let P : List (LinkOf ℤ) → Type 0 = IsStrictlySortedBy (link_cmp int_cmp) in
-      Less-from_sorted (link_cmp int_cmp) last i j d (subst P (sym last_is) (IsStrictlySortedBy-dedup (link_total int_cmp int_cmp_total) ties sorted in_order)) before inside

@@ -6,7 +6,8 @@ use Rattle.pgr_outside.specs.Parts.{part_text}
 use Rattle.pgr_rows.specs.Layout.{end_before, line_of}
 
 -- behind what is gathered a line is its first field, what ends that, and the line of the fields behind it
-pub next_field : (gathered ending : List ℕ) (rest behind : List Part) (x : Part) → 1 ≤ length rest → behind ≡ take (length rest - 1) (drop 1 rest) → ending ≡ end_before (map part_text behind)
+pub next_field : (gathered ending : List ℕ) (rest behind : List Part) (x : Part) → 1 ≤ length rest → behind ≡ take (length rest - 1) (drop 1 rest)
+    → ending ≡ end_before (map part_text behind)
     → gathered ++ line_of (map part_text rest) ≡ gathered ++ ((part_text (get_or rest 0 x) ++ ending) ++ line_of (map part_text behind))
 next_field gathered ending [] behind x some is_behind is_ending = absurd (omega (arith, some))
 next_field gathered ending (part ∷ rest) behind x some is_behind is_ending =

@@ -14,3 +14,7 @@ entry_cmp vertex_cmp a b = ordering_then (int_cmp a.edge b.edge) (ordering_then 
 -- the order of all links: by where they begin, then edge, cost and where they lead
 abbrev pub link_cmp : {V : Type 0} → (V → V → Ordering) → LinkOf V → LinkOf V → Ordering
 link_cmp vertex_cmp a b = ordering_then (vertex_cmp a.from b.from) (step_cmp vertex_cmp a b)
+
+-- the order of arcs: by edge, then where they begin, then where they lead
+abbrev pub arc_cmp : {V : Type 0} → (V → V → Ordering) → LinkOf V → LinkOf V → Ordering
+arc_cmp vertex_cmp a b = ordering_then (int_cmp a.edge b.edge) (ordering_then (vertex_cmp a.from b.from) (vertex_cmp a.to b.to))

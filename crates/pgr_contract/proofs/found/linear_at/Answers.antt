@@ -15,4 +15,5 @@ returns-in-Some-next_near c = λ links holds.
     let v = c.ranges.v in
     let first = c.ranges.first in
     let second : SFits w64 c.in-Some.second = search rules in
-    many_not links c.args.ways.now holds c.args.v c.args.first c.in-Some.second _ c.requires.first (simp to_z-of_z at c.in-Some.ensures) (simp to_z-of_z at c.in-Some-next_near.ensures)
+    many_not links c.args.ways.now holds c.args.v c.args.first c.in-Some.second _ c.requires.first (simp to_z-of_z at c.in-Some.ensures)
+    (simp to_z-of_z at c.in-Some-next_near.ensures)

@@ -19,6 +19,7 @@ returns-in-Some c =
     let v = c.ranges.v in
     let x = c.ranges.x in
     let is_range = simp to_z-of_z at (c.range-range.ensures.in_range tt) in
-    let found = near_some c.args.ways.now c.args.v (λ z. c.args.x <ℤ z) (Excluded (c.args.v, c.args.x)) (from_after c.args.ways.now c.args.v c.args.x) (after_from c.args.v c.args.x)
+    let found = near_some c.args.ways.now c.args.v (λ z. c.args.x <ℤ z) (Excluded (c.args.v, c.args.x)) (from_after c.args.ways.now c.args.v c.args.x)
+    (after_from c.args.v c.args.x)
     _ is_range c.in-Some.key.now.0 c.in-Some.key.now.1 _ _ c.in-Some.ensures.steps in
     subst (IsNear c.args.ways.now (λ z. c.args.x <ℤ z) c.args.v) (sym (simp to_z-of_z at c.second_of.ensures)) found

@@ -1,13 +1,13 @@
-use Rattle.std.proofs.Common.{◌≡◌, List, ◌++◌, take, sym, ap, subst, ◌∙◌, arith, rules}
+use Rattle.std.proofs.Common.{◌≡◌, List, ◌++◌, take, sym, ap, subst, ◌∙◌, arith}
 use Rattle.std.specs.List.{All}
 use Rattle.std.proofs.lemmas.List.{take_all}
 use Rattle.std.proofs.lemmas.List.Filters.{dedup_is}
 use Rattle.std.proofs.lemmas.List.Sorted.{All-permutation}
-use Rattle.pgr_table.specs.declared.row.EdgeRow.{EdgeRow}
 use Rattle.pgr_table.specs.declared.row.PointRow.{PointRow}
 use Rattle.pgr_table.specs.Points.{IsPoint}
+use Rattle.pgr_graph.proofs.TableLinks.{parts_tie, links_rise}
 use Rattle.pgr_points.specs.Senses.{points_of, parts_of_row}
-use Rattle.pgr_points.proofs.TableLemmas.{parts_of_rows, no_rows, rows_more, parts_tie, links_kept, links_rise}
+use Rattle.pgr_points.proofs.TableLemmas.{parts_of_rows, no_rows, rows_more, links_kept}
 use Rattle.pgr_points.proofs.pointed.with_points.Goals as goal
 
 pub loop-i-init : goal.loop-i-init

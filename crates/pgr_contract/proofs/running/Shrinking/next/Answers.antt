@@ -15,5 +15,8 @@ pub returns-in-Linear : goal.returns-in-Linear
 returns-in-Linear c =
     let old = c.args.self.now in
     let new : Shrinking = record old { linears = c.next_of-in-Linear.new.candidates } in
-    subst (λ m. IsNextIn m old new c.next_of-in-Linear.result) (sym c.in-Linear.is)
-    (refl, (λ links holds. subst (λ m. IsNextOf m links old.linears c.next_of-in-Linear.new.candidates c.next_of-in-Linear.result) c.in-Linear.is (c.next_of-in-Linear.ensures links holds)))
+    subst (λ m. IsNextIn m old new c.next_of-in-Linear.result) (sym c.in-Linear.is) (
+      refl,
+      (λ links holds. subst (λ m. IsNextOf m links old.linears c.next_of-in-Linear.new.candidates c.next_of-in-Linear.result) c.in-Linear.is
+          (c.next_of-in-Linear.ensures links holds)),
+    )

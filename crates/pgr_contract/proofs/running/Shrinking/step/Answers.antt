@@ -14,8 +14,10 @@ returns-in_default-clause-step c =
 
 pub returns-clause-running : goal.returns-clause-running
 returns-clause-running c =
-    (step_done c.args.task.now c.args.method c.args.self.now c.next.new.self c.note.new.self c.in-Some.event c.requires.task c.requires.running c.in-Some.ensures c.in_ok-note.ensures).running
+    (step_done c.args.task.now c.args.method c.args.self.now c.next.new.self c.note.new.self c.in-Some.event c.requires.task c.requires.running c.in-Some.ensures
+    c.in_ok-note.ensures).running
 
 pub returns-clause-step : goal.returns-clause-step
 returns-clause-step c =
-    (step_done c.args.task.now c.args.method c.args.self.now c.next.new.self c.note.new.self c.in-Some.event c.requires.task c.requires.running c.in-Some.ensures c.in_ok-note.ensures).step
+    (step_done c.args.task.now c.args.method c.args.self.now c.next.new.self c.note.new.self c.in-Some.event c.requires.task c.requires.running c.in-Some.ensures
+    c.in_ok-note.ensures).step
