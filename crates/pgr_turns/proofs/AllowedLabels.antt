@@ -21,7 +21,8 @@ use Rattle.pgr_turns.proofs.RoutesBeneath.{walk_ends}
 -- one state more is looked at
 pub targets_hit : (x : ℕ) (vertex : ℕ → ℕ) (to : ℕ) (targets : List ℕ) → AreTargets x vertex to targets → vertex x ≡ to → AreTargets (x + 1) vertex to (targets ++ x ∷ [])
 targets_hit x vertex to targets h is y = (
-  λ there. ⊎_elim (λ earlier. let r = (h y).0 earlier in (omega (arith, r.0), r.1)) (λ same. (omega (arith, same), ap vertex (sym same) ∙ is)) (Contains-push_cases targets x y there),
+  λ there. ⊎_elim (λ earlier. let r = (h y).0 earlier in (omega (arith, r.0), r.1)) (λ same. (omega (arith, same), ap vertex (sym same) ∙ is))
+      (Contains-push_cases targets x y there),
   λ r. ⊎_elim (λ less. Contains-append_left targets (x ∷ []) y ((h y).1 (less, r.1)))
       (λ more. let same : x ≡ y = omega (arith, r.0, more) in subst (λ z. Contains (targets ++ x ∷ []) z) same (Contains-push targets x)) (cases_lt y x),
 )
@@ -46,8 +47,10 @@ search_holds size Has vertex to targets starts labels are holds reaches start th
     record { targets = targets; are = are; holds = wanted_known size Has targets starts labels holds reaches start there }
 
 module _ (count : ℕ) (ins : ℕ → List (LinkOf ℕ)) (rs : List (List ℤ)) (size : ℕ) (vertex : ℕ → ℕ) (front : ℕ → List ℤ) (Has : LinkOf ℕ → Type 0)
-    (t : IsTurned count ins rs size vertex front Has) (labels : List (Option Label)) (from to : ℕ) (from_below : from < count) (h : HoldsAllowed size Has vertex to labels from) where
-  pub allowed_least : (route : List (LinkOf ℕ)) → IsLeastFrom size Has labels from route → IsLeast nat_cmp (IsAllowedWalk (IsLinkOf count ins) rs from to) (map (beneath vertex) route)
+    (t : IsTurned count ins rs size vertex front Has) (labels : List (Option Label)) (from to : ℕ) (from_below : from < count)
+    (h : HoldsAllowed size Has vertex to labels from) where
+  pub allowed_least : (route : List (LinkOf ℕ)) → IsLeastFrom size Has labels from route → IsLeast nat_cmp (IsAllowedWalk (IsLinkOf count ins) rs from to)
+      (map (beneath vertex) route)
   allowed_least route least = least_beneath count ins rs size vertex front Has t from to h.targets route from_below h.are (least h.targets h.holds)
 
   pub allowed_none : LeadsNowhere size Has labels from → (walk : List (LinkOf ℕ)) → IsAllowedWalk (IsLinkOf count ins) rs from to walk → ⊥

@@ -2,9 +2,9 @@
 use Rattle.std.proofs.Common.{◌≡◌, ◌≢◌, ◌⊎◌, inl, inr, ℕ, ℤ, zero, suc, ◌+◌, ◌<◌, ◌≤◌, Bool, true, false, ◌||◌, eqb, List, [], ◌∷◌, ◌++◌, Option, Some, None, length, take, set, get_or, refl, sym, ap, ◌∙◌, subst, arith, ⊎_elim}
 use Rattle.std.specs.Prelude.{reverse, Contains}
 use Rattle.std.specs.List.{All, list_any}
-use Rattle.std.proofs.lemmas.Bool.{cases_lt, cases_eq, eqb-true, eq-eqb}
+use Rattle.std.proofs.lemmas.Bool.{cases_lt, cases_eq, eqb-true, eq-eqb, or_left, or_right}
 use Rattle.std.proofs.lemmas.List.Elements.{All-push, Contains-push, Contains-append_left, Contains-get_or}
-use Rattle.std.proofs.lemmas.List.{length-reverse, length-take-le, get_or_default, get_or-set_same, get_or-set_other}
+use Rattle.std.proofs.lemmas.List.{length-reverse, length-take-le, get_or_default, get_or-set_same, get_or-set_other, nil_from_length}
 use Rattle.pgr_turns.specs.declared.trie.Node.{Node}
 use Rattle.pgr_turns.specs.declared.trie.Back.{Back}
 use Rattle.pgr_turns.specs.Fronts.{Begins, IsFront, Completes, IsLongest}
@@ -20,7 +20,8 @@ pub record Follows (rs : List (List ℤ)) (e : ℤ) (start at : List ℤ) : Type
 pub follows_self : (rs : List (List ℤ)) (e : ℤ) (start : List ℤ) → Follows rs e start start
 follows_self rs e start = record { begins = Begins-self start; all = λ ids f b. b }
 
-pub follows_more : (rs : List (List ℤ)) (e : ℤ) (start at shorter : List ℤ) → Follows rs e start at → (IsFront rs (e ∷ at) → ⊥) → IsShorter rs at shorter → Follows rs e start shorter
+pub follows_more : (rs : List (List ℤ)) (e : ℤ) (start at shorter : List ℤ) → Follows rs e start at → (IsFront rs (e ∷ at) → ⊥) → IsShorter rs at shorter
+    → Follows rs e start shorter
 follows_more rs e start at shorter follows none is = record {
   begins = Begins-trans shorter at start is.begins follows.begins;
   all = λ ids f b. by ids f (follows.all ids f b) (cases_lt (length ids) (length at));
@@ -100,15 +101,12 @@ root_back lists nodes x first empty = record {
     nothing [] b = refl
     nothing (x ∷ xs) b = cc
 
-    empty_is : (xs : List ℤ) → length xs ≡ 0 → xs ≡ []
-    empty_is [] h = refl
-    empty_is (x ∷ xs) h = absurd (omega arith)
-
     back_empty : (xs : List ℤ) → length (reverse xs) ≡ 0 → xs ≡ []
-    back_empty xs h = empty_is xs (sym (length-reverse xs) ∙ h)
+    back_empty xs h = nil_from_length xs (sym (length-reverse xs) ∙ h)
 
 -- what is kept of another, from its mark and from what is kept of the shorter one
-pub more_back : (lists : List (List ℤ)) (nodes : List Node) (child : ℕ → ℤ → Option ℕ) (marks : List Bool) (x shorter : ℕ) (back : Back) → IsTrie lists nodes child → IsMarking lists nodes marks
+pub more_back : (lists : List (List ℤ)) (nodes : List Node) (child : ℕ → ℤ → Option ℕ) (marks : List Bool) (x shorter : ℕ) (back : Back) → IsTrie lists nodes child
+    → IsMarking lists nodes marks
     → x < length nodes → x ≢ 0 → shorter < length nodes → IsShorter lists (word lists nodes x) (word lists nodes shorter) → IsBack lists nodes shorter back
     → IsBack lists nodes x (record { shorter = shorter; forbids = get_or marks x false || back.forbids })
 more_back lists nodes child marks x shorter back trie marking below some inside is shorter_back = record {
@@ -117,23 +115,15 @@ more_back lists nodes child marks x shorter back trie marking below some inside 
   only = λ h not. only_by (get_or marks x false) back.forbids refl refl h not;
 }
   where
-    left : (a b : Bool) → a ≡ true → (a || b) ≡ true
-    left true b h = refl
-    left false b h = cc
-
-    right : (a b : Bool) → b ≡ true → (a || b) ≡ true
-    right true b h = refl
-    right false b h = h
-
     done_by : (done : Completes lists (word lists nodes x)) → (length (reverse done.ids) < length (word lists nodes x)) ⊎ (length (word lists nodes x) ≤ length (reverse done.ids))
         → (get_or marks x false || back.forbids) ≡ true
-    done_by done (inl less) = right (get_or marks x false) back.forbids (shorter_back.done (record {
+    done_by done (inl less) = or_right (get_or marks x false) back.forbids (shorter_back.done (record {
       ids = done.ids;
       among = done.among;
       some = done.some;
       begins = is.longest (reverse done.ids) (front_whole lists done.ids done.among) done.begins less;
     }))
-    done_by done (inr more) = left (get_or marks x false) back.forbids
+    done_by done (inr more) = or_left (get_or marks x false) back.forbids
         (marking.whole x done.ids below done.among (sym (Begins-whole (reverse done.ids) (word lists nodes x) done.begins more)))
 
     not_empty : (w : List ℤ) → length w ≢ 0 → (of : List ℤ) → w ≡ reverse of → of ≢ []
@@ -203,7 +193,8 @@ parent_is lists nodes child trie x below some =
     (c.0, c.2, omega (arith, ap length c.2, word_length lists nodes child trie x below, word_length lists nodes child trie (node_at nodes x).parent c.0))
 
 -- what is kept of nodes up to one is so up to one whose front is shorter
-pub up_to_less : (lists : List (List ℤ)) (nodes : List Node) (backs : List Back) (x y : ℕ) → (node_at nodes y).len < (node_at nodes x).len → AreBacksUpTo lists nodes x backs → AreBacksUpTo lists nodes y backs
+pub up_to_less : (lists : List (List ℤ)) (nodes : List Node) (backs : List Back) (x y : ℕ) → (node_at nodes y).len < (node_at nodes x).len → AreBacksUpTo lists nodes x backs
+    → AreBacksUpTo lists nodes y backs
 up_to_less lists nodes backs x y less h z below at_most = h z below (omega arith)
 
 -- one node more in the order
@@ -238,15 +229,11 @@ stands_before nodes order are j d inside y below less = by (are.each y below)
             let len_k : (get_or order k d).0 ≡ (node_at nodes y).len = ap (λ (p : ℕ × ℕ). p.0) at in
             omega (arith, lens, len_j, len_k, less)
 
-or_true : (a b : Bool) → b ≡ true → (a || b) ≡ true
-or_true true b h = refl
-or_true false b h = h
-
 -- a number that stands in a list is found there
 any_at : (xs : List ℕ) (i x : ℕ) → i < length xs → get_or xs i 0 ≡ x → list_any (λ last. eqb last x) xs ≡ true
 any_at [] i x h e = absurd (omega arith)
 any_at (y ∷ ys) zero x h e = ap (λ b. b || list_any (λ last. eqb last x) ys) (eq-eqb y x e)
-any_at (y ∷ ys) (suc i) x h e = or_true (eqb y x) (list_any (λ last. eqb last x) ys) (any_at ys i x (omega arith) e)
+any_at (y ∷ ys) (suc i) x h e = or_right (eqb y x) (list_any (λ last. eqb last x) ys) (any_at ys i x (omega arith) e)
 
 -- and one that is found there stands in it
 at_any_more : (b : Bool) (y x : ℕ) (ys : List ℕ) → eqb y x ≡ b → (b || list_any (λ last. eqb last x) ys) ≡ true
@@ -259,7 +246,8 @@ at_any [] x h = cc
 at_any (y ∷ ys) x h = at_any_more (eqb y x) y x ys refl h (at_any ys x)
 
 -- the marks of the whole restrictions
-pub marking_from : (lists : List (List ℤ)) (nodes : List Node) (child : ℕ → ℤ → Option ℕ) (lasts : List ℕ) (marks : List Bool) → IsTrie lists nodes child → length marks ≡ length nodes
+pub marking_from : (lists : List (List ℤ)) (nodes : List Node) (child : ℕ → ℤ → Option ℕ) (lasts : List ℕ) (marks : List Bool) → IsTrie lists nodes child
+    → length marks ≡ length nodes
     → AreLasts lists nodes (length lists) lasts → AreMarks lasts marks → IsMarking lists nodes marks
 marking_from lists nodes child lasts marks trie size lasts_are marks_are = record {
   size_is = size;
@@ -289,7 +277,8 @@ module _ (lists : List (List ℤ)) (nodes : List Node) (order : List (ℕ × ℕ
           (subst (λ b. IsBack lists nodes x b) (sym (get_or-set_same backs x back (record { shorter = 0; forbids = false }) below)) is)
       by (inr other) =
           let before : k < j = ⊎_elim (λ less. less) (λ more. let same : k ≡ j = omega arith in absurd (other (ap (λ i. (get_or order i d).1) same ∙ at d))) (cases_lt k j) in
-          subst (λ b. IsBack lists nodes (get_or order k d).1 b) (sym (get_or-set_other backs x (get_or order k d).1 back (record { shorter = 0; forbids = false }) other)) (h k d before)
+          subst (λ b. IsBack lists nodes (get_or order k d).1 b) (sym (get_or-set_other backs x (get_or order k d).1 back (record { shorter = 0; forbids = false }) other))
+          (h k d before)
 
   -- what is kept of the nodes whose fronts are shorter stands before
   pub backs_before : (backs : List Back) (j x : ℕ) → ((d : ℕ × ℕ) → (get_or order j d).1 ≡ x) → j < length order

@@ -3,8 +3,10 @@ use Rattle.std.proofs.Common.{◌≡◌, inl, inr, ℕ, zero, suc, ◌+◌, ◌*
 use Rattle.std.proofs.lemmas.Bool.{cases_lt}
 use Rattle.pgr_walks.specs.declared.link.LinkOf.{LinkOf}
 use Rattle.pgr_walks.specs.Walk.{IsWalk, IsWithoutRepeats, cost_of, vertices_of}
+use Rattle.pgr_walks.proofs.Repeats.{Among, Apart, Apart-from_IsWithoutRepeats}
+use Rattle.pgr_walks.proofs.Membership.{Among-left, Among-right, Among-map}
 use Rattle.pgr_turns.specs.Turned.{beneath}
-use Rattle.pgr_turns.proofs.Counting.{Among, Apart, apart_from, total, total-append, sub_total, among_append_left, among_append_right, among_map}
+use Rattle.pgr_turns.proofs.Counting.{total, total-append, sub_total}
 
 -- a list of links once for each number below another
 abbrev pub tagged : List (LinkOf ℕ) → ℕ → List (ℕ × LinkOf ℕ)
@@ -28,10 +30,11 @@ total_tagged ls (suc n) =
 pub among_tagged : (ls : List (LinkOf ℕ)) (n p : ℕ) (link : LinkOf ℕ) → p < n → Among link ls → Among (p, link) (tagged ls n)
 among_tagged ls zero p link below h = absurd (omega arith)
 among_tagged ls (suc n) p link below h = ⊎_elim
-    (λ less. among_append_right (p, link) (map (λ l. (n, l)) ls) (tagged ls n) (among_tagged ls n p link less h))
+    (λ less. Among-right (p, link) (map (λ l. (n, l)) ls) (tagged ls n) (among_tagged ls n p link less h))
     (λ more.
     let same : n ≡ p = omega arith in
-    among_append_left (p, link) (map (λ l. (n, l)) ls) (tagged ls n) (subst (λ q. Among {X = ℕ × LinkOf ℕ} (q, link) (map (λ l. (n, l)) ls)) same (among_map (λ l. (n, l)) link ls h)))
+    Among-left (p, link) (map (λ l. (n, l)) ls) (tagged ls n)
+    (subst (λ q. Among {X = ℕ × LinkOf ℕ} (q, link) (map (λ l. (n, l)) ls)) same (Among-map (λ l. (n, l)) ls link h)))
     (cases_lt p n)
 
 module _ (size : ℕ) (Has : LinkOf ℕ → Type 0) (node vertex : ℕ → ℕ) (ends : (link : LinkOf ℕ) → Has link → (link.from < size) × (link.to < size))
@@ -47,7 +50,8 @@ module _ (size : ℕ) (Has : LinkOf ℕ → Type 0) (node vertex : ℕ → ℕ) 
       (r.0, (inr r.1.0, r.1.1, r.1.2, r.1.3))
 
   -- so in a route no link beneath stands twice with one front
-  pub tags_apart : (s t : ℕ) (walk : List (LinkOf ℕ)) → IsWalk Has s walk t → Apart (vertices_of s walk) → Apart {X = ℕ × LinkOf ℕ} (map (λ link. (node link.from, beneath vertex link)) walk)
+  pub tags_apart : (s t : ℕ) (walk : List (LinkOf ℕ)) → IsWalk Has s walk t → Apart (vertices_of s walk)
+      → Apart {X = ℕ × LinkOf ℕ} (map (λ link. (node link.from, beneath vertex link)) walk)
   tags_apart s t [] w p = tt
   tags_apart s t (link ∷ walk) w p = (
     λ again.
@@ -59,7 +63,8 @@ module _ (size : ℕ) (Has : LinkOf ℕ → Type 0) (node vertex : ℕ → ℕ) 
 
   -- and its tags are among those of all links
   tags_among : (fronts : ℕ) (ls : List (LinkOf ℕ)) → ((x : ℕ) → x < size → node x < fronts) → ((link : LinkOf ℕ) → Has link → Among (beneath vertex link) ls)
-      → (s t : ℕ) (walk : List (LinkOf ℕ)) → IsWalk Has s walk t → (p : ℕ × LinkOf ℕ) → Among p (map (λ link. (node link.from, beneath vertex link)) walk) → Among p (tagged ls fronts)
+      → (s t : ℕ) (walk : List (LinkOf ℕ)) → IsWalk Has s walk t → (p : ℕ × LinkOf ℕ) → Among p (map (λ link. (node link.from, beneath vertex link)) walk)
+      → Among p (tagged ls fronts)
   tags_among fronts ls nodes all s t [] w p h = absurd h
   tags_among fronts ls nodes all s t (link ∷ walk) w p (inl e) =
       subst (λ q. Among q (tagged ls fronts)) e (among_tagged ls fronts (node link.from) (beneath vertex link) (nodes link.from (ends link w.0).0) (all link w.0))
@@ -73,6 +78,6 @@ module _ (size : ℕ) (Has : LinkOf ℕ → Type 0) (node vertex : ℕ → ℕ) 
   pub route_cost : (fronts : ℕ) (ls : List (LinkOf ℕ)) → ((x : ℕ) → x < size → node x < fronts) → ((link : LinkOf ℕ) → Has link → Among (beneath vertex link) ls)
       → (s t : ℕ) (walk : List (LinkOf ℕ)) → IsWalk Has s walk t → IsWithoutRepeats (vertices_of s walk) → cost_of walk ≤ fronts * cost_of ls
   route_cost fronts ls nodes all s t walk w apart =
-      let sum = sub_total tag_cost (map (λ link. (node link.from, beneath vertex link)) walk) (tagged ls fronts) (tags_apart s t walk w (apart_from (vertices_of s walk) apart))
-      (tags_among fronts ls nodes all s t walk w) in
+      let sum = sub_total tag_cost (map (λ link. (node link.from, beneath vertex link)) walk) (tagged ls fronts)
+      (tags_apart s t walk w (Apart-from_IsWithoutRepeats (vertices_of s walk) apart)) (tags_among fronts ls nodes all s t walk w) in
       omega (arith, sum, total_tags walk, total_tagged ls fronts)

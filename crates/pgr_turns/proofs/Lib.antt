@@ -6,7 +6,6 @@ mod AutomatonSteps
 mod NonemptySteps
 mod CollectingSteps
 mod EdgeIndex
-mod Runs
 mod StateSteps
 mod LinksOnce
 mod MovingSteps

@@ -14,7 +14,8 @@ use Rattle.pgr_walks.specs.Link.{link_cmp}
 use Rattle.pgr_walks.specs.Walk.{IsWithoutRepeats}
 use Rattle.pgr_walks.specs.Graph.{IsStrictlyRising}
 use Rattle.pgr_walks.specs.LinkOrders.{link_total, link_tie, nat_tie}
-use Rattle.pgr_turns.proofs.Counting.{apart_rising, without_from}
+use Rattle.pgr_walks.proofs.Repeats.{IsWithoutRepeats-from_Apart}
+use Rattle.pgr_turns.proofs.Counting.{apart_rising}
 
 -- links are the same where all their parts are
 abbrev same_parts : LinkOf ℕ → LinkOf ℕ → Bool
@@ -46,4 +47,4 @@ module _ (same : LinkOf ℕ → LinkOf ℕ → Bool) (ties : (x y : LinkOf ℕ) 
       let P : List (LinkOf ℕ) → Type 0 = IsStrictlySortedBy (link_cmp nat_cmp) in
       let rising : IsStrictlyRising (link_cmp nat_cmp) last = λ i j d before inside. Less-from_sorted (link_cmp nat_cmp) last i j d
       (subst P (sym last_is) (IsStrictlySortedBy-dedup (link_total nat_cmp nat_cmp_total) ties sorted in_order)) before inside in
-      without_from last (apart_rising (link_cmp nat_cmp) (link_total nat_cmp nat_cmp_total) last rising)
+      IsWithoutRepeats-from_Apart last (apart_rising (link_cmp nat_cmp) (link_total nat_cmp nat_cmp_total) last rising)

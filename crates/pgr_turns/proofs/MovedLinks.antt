@@ -12,10 +12,12 @@ use Rattle.pgr_turns.specs.States.{node_of}
 use Rattle.pgr_turns.specs.Moving.{IsMoved, MovesAll, MovesTo}
 
 -- what was put behind a list of links for the links beneath that were seen
-pub record AreMovedSoFar (count : ℕ) (outs : ℕ → List (LinkOf ℕ)) (lists : List (List ℤ)) (nodes : List Node) (states : List State) (x : ℕ) (before links seen : List (LinkOf ℕ)) : Type 0 where
+pub record AreMovedSoFar (count : ℕ) (outs : ℕ → List (LinkOf ℕ)) (lists : List (List ℤ)) (nodes : List Node) (states : List State) (x : ℕ)
+    (before links seen : List (LinkOf ℕ)) : Type 0 where
   pub moved : All (IsMoved count outs lists nodes states) links
   pub kept : (link : LinkOf ℕ) → Contains before link → Contains links link
-  pub all : (link : LinkOf ℕ) → Contains seen link → (Completes lists (link.edge ∷ word lists nodes (node_of count states x)) → ⊥) → (moved : LinkOf ℕ) × (Contains links moved × MovesTo count states x link moved)
+  pub all : (link : LinkOf ℕ) → Contains seen link → (Completes lists (link.edge ∷ word lists nodes (node_of count states x)) → ⊥)
+      → (moved : LinkOf ℕ) × (Contains links moved × MovesTo count states x link moved)
 
 -- the links of the states below a number
 pub record AreMovedBelow (count : ℕ) (outs : ℕ → List (LinkOf ℕ)) (lists : List (List ℤ)) (nodes : List Node) (states : List State) (x : ℕ) (links : List (LinkOf ℕ)) : Type 0 where
@@ -44,7 +46,8 @@ module _ (count : ℕ) (outs : ℕ → List (LinkOf ℕ)) (lists : List (List �
   below_none = record { moved = All-nil (IsMoved count outs lists nodes states); all = λ y h. absurd (omega arith) }
 
   pub below_more : (x : ℕ) (before links : List (LinkOf ℕ)) → AreMovedBelow count outs lists nodes states x before → All (IsMoved count outs lists nodes states) links
-      → ((link : LinkOf ℕ) → Contains before link → Contains links link) → MovesAll count outs lists nodes states x links → AreMovedBelow count outs lists nodes states (x + 1) links
+      → ((link : LinkOf ℕ) → Contains before link → Contains links link) → MovesAll count outs lists nodes states x links
+      → AreMovedBelow count outs lists nodes states (x + 1) links
   below_more x before links h moved kept here = record {
     moved = moved;
     all = λ y below. ⊎_elim

@@ -19,11 +19,12 @@ use Rattle.pgr_turns.specs.Turned.{beneath}
 use Rattle.pgr_turns.specs.States.{state_at, node_of, vertex_of, state_cmp, AreStates, IsHead}
 use Rattle.pgr_turns.specs.Moving.{IsMoved, MovesTo}
 use Rattle.pgr_turns.proofs.FrontLemmas.{Begins-first, completes_edges, completes_longest}
-use Rattle.pgr_turns.proofs.StateSteps.{state_total, state_tie}
+use Rattle.pgr_turns.proofs.StateSteps.{state_total}
 use Rattle.pgr_turns.proofs.TurnedMade.{state_plain, state_more}
 
 -- a state isn't in a list where all before a place are less and all from there on are greater
-absent : (states : List State) (state : State) (place : ℕ) → IsPartitionPoint (λ other. state_cmp other state ≡ Less) (λ other. state_cmp other state ≡ Greater) states place → Contains states state → ⊥
+absent : (states : List State) (state : State) (place : ℕ) → IsPartitionPoint (λ other. state_cmp other state ≡ Less) (λ other. state_cmp other state ≡ Greater) states place
+    → Contains states state → ⊥
 absent states state place parts (k, inside, is) =
     let tied : state_cmp (get_or states k state) state ≡ Equal = ap (λ other. state_cmp other state) is ∙ tied_itself state_total state in
     ⊎_elim
@@ -40,16 +41,15 @@ sorted_rising : (states : List State) → IsStrictlyRising state_cmp states → 
 sorted_rising states rise k d low inside =
     not_after _ _ (rise k (k + 1) d (omega arith) inside) (state_total.antisymm (get_or states (k + 1) d) (get_or states k d))
 
-pub absent_from_search : (states : List State) (state : State) (place : ℕ) → IsStrictlyRising state_cmp states → IsBinarySearchResult (λ other. state_cmp other state) states (Err place)
+pub absent_from_search : (states : List State) (state : State) (place : ℕ) → IsStrictlyRising state_cmp states
+    → IsBinarySearchResult (λ other. state_cmp other state) states (Err place)
     → Contains states state → ⊥
 absent_from_search states state place rise found there =
     absent states state place (found (searchable_from_sorted state_total (λ other. other) states state (sorted_rising states rise))) there
 
-pub found_state : (a b : State) → state_cmp a b ≡ Equal → a ≡ b
-found_state a b e = state_tie a b e
-
 -- the node and the vertex of a state
-pub state_range : (count : ℕ) (ins : ℕ → List (LinkOf ℕ)) (nodes : List Node) (backs : List Back) (states : List State) → AreStates (IsLinkOf count ins) nodes backs (length nodes) states
+pub state_range : (count : ℕ) (ins : ℕ → List (LinkOf ℕ)) (nodes : List Node) (backs : List Back) (states : List State)
+    → AreStates (IsLinkOf count ins) nodes backs (length nodes) states
     → 0 < length nodes → (x : ℕ) → x < count + length states → (node_of count states x < length nodes) × (vertex_of count states x < count)
 state_range count ins nodes backs states are some x inside = by (cases_lt x count)
   where
@@ -68,7 +68,8 @@ module _ (count : ℕ) (outs ins : ℕ → List (LinkOf ℕ)) (law : IsLawful co
   -- a link that completes a restriction
   pub moves_none : (back_at backs next).forbids ≡ true → (Completes lists (link.edge ∷ word lists nodes (node_of count states x)) → ⊥) → ⊥
   moves_none forbids not =
-      (auto.backs_are next next_below).only forbids (λ done. not (completes_edges lists (link.edge ∷ word lists nodes (node_of count states x)) (word lists nodes next) longest.begins done))
+      (auto.backs_are next next_below).only forbids
+      (λ done. not (completes_edges lists (link.edge ∷ word lists nodes (node_of count states x)) (word lists nodes next) longest.begins done))
 
   last_edge : next ≢ 0 → link.edge ≡ (node_at nodes next).edge
   last_edge some =
@@ -85,24 +86,28 @@ module _ (count : ℕ) (outs ins : ℕ → List (LinkOf ℕ)) (law : IsLawful co
       (link_ends.1, (law.both link from_below link_ends.1).0 (subst (λ v. Contains (outs v) link) (sym link_ends.0) out))
 
   -- the state that it leads to is there
-  pub state_there : (back_at backs next).forbids ≡ false → (next ≡ 0) ⊎ (next ≢ 0) → ((next ≡ 0) × (link.to < count)) ⊎ ((next ≢ 0) × Contains states (record { node = next; vertex = link.to }))
+  pub state_there : (back_at backs next).forbids ≡ false → (next ≡ 0) ⊎ (next ≢ 0) → ((next ≡ 0) × (link.to < count))
+      ⊎ ((next ≢ 0) × Contains states (record { node = next; vertex = link.to }))
   state_there free (inl zero_is) = inl (zero_is, link_ends.1)
   state_there free (inr some) = inr (some, are.each next link.to next_below some free (link, (is_link, last_edge some, refl)))
 
   -- and the link is one of states
-  pub moves_some : (y : ℕ) → (back_at backs next).forbids ≡ false → x < count + length states → y < count + length states → state_at count states y ≡ record { node = next; vertex = link.to }
+  pub moves_some : (y : ℕ) → (back_at backs next).forbids ≡ false → x < count + length states → y < count + length states
+      → state_at count states y ≡ record { node = next; vertex = link.to }
       → MovesTo count states x link (record { from = x; edge = link.edge; cost = link.cost; to = y })
       × IsMoved count outs lists nodes states (record { from = x; edge = link.edge; cost = link.cost; to = y })
   moves_some y free x_below y_below is =
       let same : beneath (vertex_of count states) (record { from = x; edge = link.edge; cost = link.cost; to = y }) ≡ link =
-      same_link (beneath (vertex_of count states) (record { from = x; edge = link.edge; cost = link.cost; to = y })) link (sym link_ends.0) refl refl (ap (λ (s : State). s.vertex) is) in (
+      same_link (beneath (vertex_of count states) (record { from = x; edge = link.edge; cost = link.cost; to = y })) link (sym link_ends.0) refl refl
+      (ap (λ (s : State). s.vertex) is) in (
         record { from = refl; is = same },
         record {
           from_below = x_below;
           to_below = y_below;
           passes = subst (λ (l : LinkOf ℕ). Contains (outs (vertex_of count states x)) l) (sym same) out;
           free = λ done.
-              let forbids = (auto.backs_are next next_below).done (completes_longest lists (link.edge ∷ word lists nodes (node_of count states x)) (word lists nodes next) longest done) in
+              let forbids = (auto.backs_are next next_below).done
+              (completes_longest lists (link.edge ∷ word lists nodes (node_of count states x)) (word lists nodes next) longest done) in
               absurd (no (sym forbids ∙ free));
           longest = subst (λ n. IsLongest lists (link.edge ∷ word lists nodes (node_of count states x)) (word lists nodes n)) (sym (ap (λ (s : State). s.node) is)) longest;
         },

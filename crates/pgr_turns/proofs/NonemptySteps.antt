@@ -9,7 +9,8 @@ use Rattle.std.proofs.lemmas.Option.{get_or_from_slice_get}
 use Rattle.pgr_turns.specs.Restrictions.{nonempty}
 use Rattle.pgr_turns.specs.Trie.{elements}
 
-pub nonempty_more : (lists : List (List ℤ)) (i : ℕ) (ids : List ℤ) → i < length lists → slice_get lists i ≡ Some ids → nonempty (take (i + 1) lists) ≡ nonempty (take i lists) ++ nonempty (ids ∷ [])
+pub nonempty_more : (lists : List (List ℤ)) (i : ℕ) (ids : List ℤ) → i < length lists → slice_get lists i ≡ Some ids
+    → nonempty (take (i + 1) lists) ≡ nonempty (take i lists) ++ nonempty (ids ∷ [])
 nonempty_more lists i ids inside row =
     ap nonempty (take_more lists i [] inside ∙ ap (λ (last : List ℤ). take i lists ++ last ∷ []) (get_or_from_slice_get lists i ids [] row))
     ∙ filter-append (λ (xs : List ℤ). nat_lt 0 (length xs)) (take i lists) (ids ∷ [])

@@ -17,7 +17,8 @@ cost_kept vertex [] = refl
 cost_kept vertex (link ∷ links) = ap (λ c. link.cost + c) (cost_kept vertex links)
 
 -- the ends of the links of a walk of states are states
-pub walk_ends : (size : ℕ) (Has : LinkOf ℕ → Type 0) → ((link : LinkOf ℕ) → Has link → (link.from < size) × (link.to < size)) → (s t : ℕ) (walk : List (LinkOf ℕ)) → IsWalk Has s walk t
+pub walk_ends : (size : ℕ) (Has : LinkOf ℕ → Type 0) → ((link : LinkOf ℕ) → Has link → (link.from < size) × (link.to < size)) → (s t : ℕ) (walk : List (LinkOf ℕ))
+    → IsWalk Has s walk t
     → All (λ link. (link.from < size) × (link.to < size)) walk
 walk_ends size Has ends s t [] w = All-nil (λ link. (link.from < size) × (link.to < size))
 walk_ends size Has ends s t (link ∷ walk) w =

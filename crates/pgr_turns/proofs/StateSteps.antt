@@ -1,17 +1,17 @@
 -- Heads by their edges, and the states at them.
-use Rattle.std.proofs.Common.{◌≡◌, ◌≢◌, ◌⊎◌, inl, inr, ℕ, ℤ, pos, zero, suc, ◌+◌, ◌<◌, ◌≤◌, Bool, true, false, cond, ◌||◌, ◌&&◌, eqb, List, [], ◌++◌, map, get_or, refl, sym, ap, ◌∙◌, subst, arith, ⊎_elim, Ordering, Less, Equal, Greater}
+use Rattle.std.proofs.Common.{◌≡◌, ◌≢◌, ◌⊎◌, inl, inr, ℕ, ℤ, zero, suc, ◌+◌, ◌<◌, ◌≤◌, Bool, true, false, cond, ◌||◌, ◌&&◌, eqb, List, [], ◌++◌, map, get_or, refl, sym, ap, ◌∙◌, subst, arith, ⊎_elim, Ordering, Less, Equal, Greater}
 use Rattle.std.specs.Prelude.{Contains, All}
 use Rattle.std.specs.Ordering.{nat_cmp, int_cmp, ordering_then, ordering_index, is_lt, eq_by_cmp}
 use Rattle.std.specs.Cmp.{IsTotalOrder, IsEquivalence, Equal-is}
 use Rattle.std.specs.List.{dedup}
 use Rattle.std.specs.List.Sorted.{IsSorted, IsPermutation, IsNonDecreasingBy}
-use Rattle.std.proofs.lemmas.Bool.{cases_lt, eqb-true, eq-eqb, ne_eqb}
+use Rattle.std.proofs.lemmas.Bool.{cases_lt, eqb-true, eq-eqb, ne_eqb, and_parts}
 use Rattle.std.proofs.lemmas.Cmp.{nat_cmp_total, int_cmp_total, on_total, then_total, tied_itself}
-use Rattle.std.proofs.lemmas.List.{get_or-map, length-map}
 use Rattle.std.proofs.lemmas.List.Elements.{Contains-get_or, Contains-append_left, Contains-append_right, Contains-append_cases}
 use Rattle.std.proofs.lemmas.List.Kept.{Contains-dedup, Contains-from_dedup, IsStrictlySortedBy-dedup}
 use Rattle.std.proofs.lemmas.List.Sorted.{searchable_from_sorted, Contains-permutation, IsPermutation-sym}
 use Rattle.std.proofs.lemmas.Map.Keys.{Less-from_sorted}
+use Rattle.pgr_outside.proofs.Lists.{Contains-map, Contains-from_map}
 use Rattle.pgr_walks.specs.declared.link.LinkOf.{LinkOf}
 use Rattle.pgr_walks.specs.Graph.{IsLinkOf, IsLawful}
 use Rattle.pgr_walks.specs.LinkOrders.{int_tie, nat_tie, then_tie}
@@ -26,14 +26,6 @@ use Rattle.pgr_turns.specs.States.{head_cmp, state_cmp, edge_index, head_of, run
 -- what holds of each element holds of all
 pub all_from : {X : Type 0} (P : X → Type 0) (xs : List X) → ((x : X) → Contains xs x → P x) → All P xs
 all_from P xs each k d inside = each (get_or xs k d) (Contains-get_or xs k d inside)
-
-pub Contains-map : {X Y : Type 0} (f : X → Y) (xs : List X) (x : X) → Contains xs x → Contains (map f xs) (f x)
-Contains-map f xs x (k, inside, is) = (k, rw length-map inside, get_or-map f xs k x (f x) inside ∙ ap f is)
-
-pub Contains-from_map : {X Y : Type 0} (f : X → Y) (xs : List X) (y : Y) (d : X) → Contains (map f xs) y → (x : X) × (Contains xs x × (y ≡ f x))
-Contains-from_map f xs y d (k, inside, is) =
-    let within = rw length-map at inside in
-    (get_or xs k d, (Contains-get_or xs k d within, sym is ∙ get_or-map f xs k d y within))
 
 -- sorted heads stand by their edges
 first_not : (o p : Ordering) → is_lt (ordering_then o p) ≡ false → is_lt o ≡ false
@@ -76,10 +68,6 @@ state_tie a b e =
 abbrev pub is_state : State → State → Bool
 is_state a b = eqb a.node b.node && eqb a.vertex b.vertex
 
-both_true : (a b : Bool) → a && b ≡ true → (a ≡ true) × (b ≡ true)
-both_true true b e = (refl, e)
-both_true false b e = cc
-
 alike : (a b : Bool) → (a ≡ true → b ≡ true) → (b ≡ true → a ≡ true) → a ≡ b
 alike true b there back = sym (there refl)
 alike false true there back = back refl
@@ -87,7 +75,7 @@ alike false false there back = refl
 
 is_state_same : (a b : State) → is_state a b ≡ true → a ≡ b
 is_state_same a b e =
-    let both = both_true (eqb a.node b.node) (eqb a.vertex b.vertex) e in
+    let both = and_parts (eqb a.node b.node) (eqb a.vertex b.vertex) e in
     same_state a b (eqb-true a.node b.node both.0) (eqb-true a.vertex b.vertex both.1)
 
 is_state_itself : (a : State) → is_state a a ≡ true
@@ -125,12 +113,12 @@ heads_more count outs ins law v heads below h = record {
   where
     is_new : (head : Head) → Contains (map head_of (outs v)) head → IsHead (IsLinkOf count ins) head.edge head.vertex
     is_new head new =
-        let found = Contains-from_map head_of (outs v) head (record { from = 0; edge = head.edge; cost = 0; to = 0 }) new in
+        let found = Contains-from_map head_of (outs v) head new in
         let link = found.0 in
-        let ends = (law.at v below).out_ends link found.1.0 in
+        let ends = (law.at v below).out_ends link found.1 in
         let from_below : link.from < count = omega (arith, ends.0) in
-        let out = subst (λ u. Contains (outs u) link) (sym ends.0) found.1.0 in
-        (link, ((ends.1, (law.both link from_below ends.1).0 out), sym (ap (λ (x : Head). x.edge) found.1.1), sym (ap (λ (x : Head). x.vertex) found.1.1)))
+        let out = subst (λ u. Contains (outs u) link) (sym ends.0) found.1 in
+        (link, ((ends.1, (law.both link from_below ends.1).0 out), sym (ap (λ (x : Head). x.edge) found.2), sym (ap (λ (x : Head). x.vertex) found.2)))
 
     keeps : (link : LinkOf ℕ) → IsLinkOf count ins link → (link.from < v) ⊎ (v ≤ link.from) → link.from < v + 1 → Contains (heads ++ map head_of (outs v)) (head_of link)
     keeps link has (inl less) before = Contains-append_left heads (map head_of (outs v)) (head_of link) (h.each link has less)
@@ -140,7 +128,8 @@ heads_more count outs ins law v heads below h = record {
         let out = (law.both link from_below has.0).1 has.1 in
         Contains-append_right heads (map head_of (outs v)) (head_of link) (Contains-map head_of (outs v) link (subst (λ u. Contains (outs u) link) same out))
 
-pub heads_sorted : (count : ℕ) (outs ins : ℕ → List (LinkOf ℕ)) → IsLawful count outs ins → (heads sorted : List Head) → AreHeadsBelow count ins count heads → IsPermutation heads sorted
+pub heads_sorted : (count : ℕ) (outs ins : ℕ → List (LinkOf ℕ)) → IsLawful count outs ins → (heads sorted : List Head) → AreHeadsBelow count ins count heads
+    → IsPermutation heads sorted
     → IsSorted head_cmp sorted → AreHeads (IsLinkOf count ins) sorted
 heads_sorted count outs ins law heads sorted h moved in_order = record {
   edges_rise = heads_in_order sorted in_order;
@@ -152,39 +141,47 @@ heads_sorted count outs ins law heads sorted h moved in_order = record {
 
 -- the states of the nodes below a number
 module _ (Has : LinkOf ℕ → Type 0) (nodes : List Node) (backs : List Back) (heads : List Head) (are : AreHeads Has heads) where
-  with_gives : (x : ℕ) (state : State) → Contains (states_with nodes backs heads x) state → (state.node ≡ x) × (x ≢ 0) × IsHead Has (node_at nodes x).edge state.vertex
-  with_gives x state h = by (eqb x 0) (back_at backs x).forbids refl h
+  with_gives : (x : ℕ) (state : State) → Contains (states_with nodes backs heads x) state
+      → (state.node ≡ x) × (x ≢ 0) × ((back_at backs x).forbids ≡ false) × IsHead Has (node_at nodes x).edge state.vertex
+  with_gives x state h = by (eqb x 0) (back_at backs x).forbids refl refl h
     where
       not_zero : eqb x 0 ≡ false → x ≢ 0
       not_zero e z = let t : eqb x 0 ≡ true = eq-eqb x 0 z in cc
 
-      by : (a b : Bool) → eqb x 0 ≡ a → Contains (cond (a || b) [] (map (with_node x) (run_heads (node_at nodes x).edge heads))) state
-          → (state.node ≡ x) × (x ≢ 0) × IsHead Has (node_at nodes x).edge state.vertex
-      by true b e h = absurd (omega (arith, h.1))
-      by false true e h = absurd (omega (arith, h.1))
-      by false false e h =
-          let found = Contains-from_map (with_node x) (run_heads (node_at nodes x).edge heads) state (record { edge = pos 0; vertex = 0 }) h in
-          let given = run_gives heads (node_at nodes x).edge found.0 found.1.0 in
+      by : (a b : Bool) → eqb x 0 ≡ a → (back_at backs x).forbids ≡ b → Contains (cond (a || b) [] (map (with_node x) (run_heads (node_at nodes x).edge heads))) state
+          → (state.node ≡ x) × (x ≢ 0) × ((back_at backs x).forbids ≡ false) × IsHead Has (node_at nodes x).edge state.vertex
+      by true b e f h = absurd (omega (arith, h.1))
+      by false true e f h = absurd (omega (arith, h.1))
+      by false false e f h =
+          let found = Contains-from_map (with_node x) (run_heads (node_at nodes x).edge heads) state h in
+          let given = run_gives heads (node_at nodes x).edge found.0 found.1 in
           let head = are.are found.0 given.0 in (
-            ap (λ (s : State). s.node) found.1.1,
+            ap (λ (s : State). s.node) found.2,
             not_zero e,
-            (head.0, (head.1.0, head.1.1 ∙ given.1, head.1.2 ∙ sym (ap (λ (s : State). s.vertex) found.1.1))),
+            f,
+            (head.0, (head.1.0, head.1.1 ∙ given.1, head.1.2 ∙ sym (ap (λ (s : State). s.vertex) found.2))),
           )
 
-  pub below_gives : (k : ℕ) (state : State) → Contains (states_below nodes backs heads k) state → (0 < state.node) × (state.node < k) × IsHead Has (node_at nodes state.node).edge state.vertex
+  pub below_gives : (k : ℕ) (state : State) → Contains (states_below nodes backs heads k) state
+      → (0 < state.node) × (state.node < k) × ((back_at backs state.node).forbids ≡ false) × IsHead Has (node_at nodes state.node).edge state.vertex
   below_gives zero state h = absurd (omega (arith, h.1))
   below_gives (suc k) state h = ⊎_elim
-      (λ before. let r = below_gives k state before in (r.0, omega (arith, r.1), r.2))
+      (λ before. let r = below_gives k state before in (r.0, omega (arith, r.1), r.2, r.3))
       (λ here.
-      let r = with_gives k state here in
-      (omega (arith, r.0, r.1), omega (arith, r.0), subst (λ x. IsHead Has (node_at nodes x).edge state.vertex) (sym r.0) r.2))
+      let r = with_gives k state here in (
+        omega (arith, r.0, r.1),
+        omega (arith, r.0),
+        subst (λ x. (back_at backs x).forbids ≡ false) (sym r.0) r.2,
+        subst (λ x. IsHead Has (node_at nodes x).edge state.vertex) (sym r.0) r.3,
+      ))
       (Contains-append_cases (states_below nodes backs heads k) (states_with nodes backs heads k) state h)
 
   with_keeps : (x : ℕ) (link : LinkOf ℕ) → x ≢ 0 → (back_at backs x).forbids ≡ false → Has link → link.edge ≡ (node_at nodes x).edge
       → Contains (states_with nodes backs heads x) (record { node = x; vertex = link.to })
   with_keeps x link some free has edge =
       let run : Contains (run_heads (node_at nodes x).edge heads) (record { edge = link.edge; vertex = link.to }) =
-      subst (λ e. Contains (run_heads e heads) (record { edge = link.edge; vertex = link.to })) edge (run_keeps heads (record { edge = link.edge; vertex = link.to }) (are.each link has)) in
+      subst (λ e. Contains (run_heads e heads) (record { edge = link.edge; vertex = link.to })) edge
+      (run_keeps heads (record { edge = link.edge; vertex = link.to }) (are.each link has)) in
       let zero_is : eqb x 0 ≡ false = ne_eqb x 0 some in
       subst (λ b. Contains (cond b [] (map (with_node x) (run_heads (node_at nodes x).edge heads))) (record { node = x; vertex = link.to }))
       (sym (ap (λ b. b || (back_at backs x).forbids) zero_is ∙ free))
@@ -194,7 +191,8 @@ module _ (Has : LinkOf ℕ → Type 0) (nodes : List Node) (backs : List Back) (
       → Contains (states_below nodes backs heads k) (record { node = x; vertex = link.to })
   below_keeps zero x link h some free has edge = absurd (omega arith)
   below_keeps (suc k) x link h some free has edge = ⊎_elim
-      (λ before. Contains-append_left (states_below nodes backs heads k) (states_with nodes backs heads k) (record { node = x; vertex = link.to }) (below_keeps k x link before some free has edge))
+      (λ before. Contains-append_left (states_below nodes backs heads k) (states_with nodes backs heads k) (record { node = x; vertex = link.to })
+      (below_keeps k x link before some free has edge))
       (λ after.
       let same : x ≡ k = omega arith in
       Contains-append_right (states_below nodes backs heads k) (states_with nodes backs heads k) (record { node = x; vertex = link.to })
@@ -202,19 +200,26 @@ module _ (Has : LinkOf ℕ → Type 0) (nodes : List Node) (backs : List Back) (
       (cases_lt x k)
 
   -- sorted and without repeats they are the states
-  pub states_sorted : (k : ℕ) (sorted : List State) → IsPermutation (states_below nodes backs heads k) sorted → IsSorted state_cmp sorted → AreStates Has nodes backs k (dedup is_state sorted)
+  pub states_sorted : (k : ℕ) (sorted : List State) → IsPermutation (states_below nodes backs heads k) sorted → IsSorted state_cmp sorted
+      → AreStates Has nodes backs k (dedup is_state sorted)
   states_sorted k sorted moved in_order = record {
     nodes_are = all_from (λ state. (0 < state.node) × (state.node < k)) (dedup is_state sorted) (λ state h. let r = gives state h in (r.0, r.1));
-    heads_are = all_from (λ state. IsHead Has (node_at nodes state.node).edge state.vertex) (dedup is_state sorted) (λ state h. (gives state h).2);
+    heads_are = all_from (λ state. IsHead Has (node_at nodes state.node).edge state.vertex) (dedup is_state sorted) (λ state h. (gives state h).3);
+    live = all_from (λ state. (back_at backs state.node).forbids ≡ false) (dedup is_state sorted) (λ state h. (gives state h).2);
     rise = λ i j x before inside. Less-from_sorted state_cmp (dedup is_state sorted) i j x (IsStrictlySortedBy-dedup state_total is_state_by_cmp sorted in_order) before inside;
     each = λ x v below some free head. keeps x v below some free head;
   }
     where
-      gives : (state : State) → Contains (dedup is_state sorted) state → (0 < state.node) × (state.node < k) × IsHead Has (node_at nodes state.node).edge state.vertex
-      gives state h = below_gives k state (Contains-permutation sorted (states_below nodes backs heads k) state (IsPermutation-sym (states_below nodes backs heads k) sorted moved) (Contains-from_dedup is_state sorted state h))
+      gives : (state : State) → Contains (dedup is_state sorted) state
+          → (0 < state.node) × (state.node < k) × ((back_at backs state.node).forbids ≡ false) × IsHead Has (node_at nodes state.node).edge state.vertex
+      gives state h = below_gives k state
+          (Contains-permutation sorted (states_below nodes backs heads k) state (IsPermutation-sym (states_below nodes backs heads k) sorted moved)
+          (Contains-from_dedup is_state sorted state h))
 
-      keeps : (x v : ℕ) → x < k → x ≢ 0 → (back_at backs x).forbids ≡ false → IsHead Has (node_at nodes x).edge v → Contains (dedup is_state sorted) (record { node = x; vertex = v })
+      keeps : (x v : ℕ) → x < k → x ≢ 0 → (back_at backs x).forbids ≡ false → IsHead Has (node_at nodes x).edge v
+          → Contains (dedup is_state sorted) (record { node = x; vertex = v })
       keeps x v below some free head =
           let there = below_keeps k x head.0 below some free head.1.0 head.1.1 in
           subst (λ w. Contains (dedup is_state sorted) (record { node = x; vertex = w })) head.1.2
-          (Contains-dedup equivalence is_state_same sorted (record { node = x; vertex = head.0.to }) (Contains-permutation (states_below nodes backs heads k) sorted (record { node = x; vertex = head.0.to }) moved there))
+          (Contains-dedup equivalence is_state_same sorted (record { node = x; vertex = head.0.to })
+          (Contains-permutation (states_below nodes backs heads k) sorted (record { node = x; vertex = head.0.to }) moved there))

@@ -1,5 +1,5 @@
 -- There are no more states behind the vertices than the edges of the restrictions have ends.
-use Rattle.std.proofs.Common.{◌≡◌, ◌≢◌, ℕ, ℤ, pos, zero, suc, ◌+◌, ◌<◌, ◌≤◌, Bool, true, false, ◌||◌, List, [], ◌∷◌, ◌++◌, map, length, get_or, take, Option, refl, sym, ap, ◌∙◌, subst, arith}
+use Rattle.std.proofs.Common.{◌≡◌, ◌≢◌, ℕ, ℤ, pos, zero, suc, ◌+◌, ◌<◌, ◌≤◌, true, List, [], ◌∷◌, ◌++◌, map, length, get_or, take, Option, refl, sym, ap, ◌∙◌, subst, arith}
 use Rattle.std.specs.Prelude.{Contains, reverse}
 use Rattle.std.specs.Ordering.{int_eq, is_eq}
 use Rattle.std.specs.List.{list_any, range_with_len, sum_by}
@@ -9,9 +9,12 @@ use Rattle.std.proofs.lemmas.List.Elements.{All-get_or}
 use Rattle.std.proofs.lemmas.List.Folds.{list_any_at}
 use Rattle.std.proofs.lemmas.List.FromFn.{get_or-range_with_len, length-range_with_len}
 use Rattle.std.proofs.lemmas.List.Sums.{sum_by-cons}
+use Rattle.std.proofs.lemmas.Bool.{or_right}
 use Rattle.pgr_walks.specs.declared.link.LinkOf.{LinkOf}
 use Rattle.pgr_walks.specs.Graph.{IsLinkOf}
 use Rattle.pgr_walks.specs.ListGraphLaws.{filter_keeps}
+use Rattle.pgr_walks.proofs.Repeats.{Among, Apart}
+use Rattle.pgr_walks.proofs.Membership.{Among-left, Among-right, Among-map, Among-from_Contains, Contains-from_Among}
 use Rattle.pgr_turns.specs.declared.state.State.{State}
 use Rattle.pgr_turns.specs.declared.trie.Node.{Node}
 use Rattle.pgr_turns.specs.declared.trie.Back.{Back}
@@ -19,7 +22,7 @@ use Rattle.pgr_turns.specs.Trie.{node_at, list_at, front_of, word, IsTrie, IsAut
 use Rattle.pgr_turns.specs.States.{AreStates, IsHead, state_cmp}
 use Rattle.pgr_turns.specs.MostStates.{is_end, ends_of, most_states}
 use Rattle.pgr_turns.proofs.StateSteps.{state_total}
-use Rattle.pgr_turns.proofs.Counting.{Among, Apart, total_ones, sub_total, apart_map, apart_rising, among_append_left, among_append_right, among_map, among_contained, contains_among, among_from_map}
+use Rattle.pgr_turns.proofs.Counting.{total_ones, sub_total, apart_map, apart_rising, among_from_map}
 
 -- for each id of a list, with the place of the list and of the id behind it, the ends of its edge
 abbrev pub tags_from : (ℤ → List ℕ) → ℕ → ℕ → List ℤ → List (ℕ × (ℕ × ℕ))
@@ -34,7 +37,8 @@ tags_of ends i (ids ∷ lists) = tags_from ends i 0 ids ++ tags_of ends (suc i) 
 length-tags_from : (ends : ℤ → List ℕ) (i k : ℕ) (ids : List ℤ) → length (tags_from ends i k ids) ≡ sum_by (λ e. length (ends e)) ids
 length-tags_from ends i k [] = refl
 length-tags_from ends i k (e ∷ es) =
-    length-append (map (λ v. (i, (suc k, v))) (ends e)) (tags_from ends i (suc k) es) ∙ ap (λ n. n + length (tags_from ends i (suc k) es)) (length-map (ends e) (λ v. (i, (suc k, v))))
+    length-append (map (λ v. (i, (suc k, v))) (ends e)) (tags_from ends i (suc k) es) ∙ ap (λ n. n + length (tags_from ends i (suc k) es))
+    (length-map (ends e) (λ v. (i, (suc k, v))))
     ∙ ap (λ n. length (ends e) + n) (length-tags_from ends i (suc k) es) ∙ sym (sum_by-cons (λ e. length (ends e)) e es)
 
 length-tags_of : (ends : ℤ → List ℕ) (i : ℕ) (lists : List (List ℤ)) → length (tags_of ends i lists) ≡ sum_by (λ ids. sum_by (λ e. length (ends e)) ids) lists
@@ -48,13 +52,14 @@ among_tags_from ends i k n v d [] inside h = absurd (omega arith)
 among_tags_from ends i k zero v d (e ∷ es) inside h =
     let same : k + 0 ≡ k = omega arith in
     subst (λ m. Among {X = ℕ × (ℕ × ℕ)} (i, (suc m, v)) (tags_from ends i k (e ∷ es))) (sym same)
-    (among_append_left (i, (suc k, v)) (map (λ w. (i, (suc k, w))) (ends e)) (tags_from ends i (suc k) es) (among_map (λ w. (i, (suc k, w))) v (ends e) h))
+    (Among-left (i, (suc k, v)) (map (λ w. (i, (suc k, w))) (ends e)) (tags_from ends i (suc k) es) (Among-map (λ w. (i, (suc k, w))) (ends e) v h))
 among_tags_from ends i k (suc n) v d (e ∷ es) inside h =
     let same : suc k + n ≡ k + suc n = omega arith in
-    among_append_right (i, (suc (k + suc n), v)) (map (λ w. (i, (suc k, w))) (ends e)) (tags_from ends i (suc k) es)
+    Among-right (i, (suc (k + suc n), v)) (map (λ w. (i, (suc k, w))) (ends e)) (tags_from ends i (suc k) es)
     (subst (λ m. Among {X = ℕ × (ℕ × ℕ)} (i, (suc m, v)) (tags_from ends i (suc k) es)) same (among_tags_from ends i (suc k) n v d es (omega arith) h))
 
-among_tags_of : (ends : ℤ → List ℕ) (i j n v : ℕ) (d : ℤ) (lists : List (List ℤ)) → j < length lists → n < length (get_or lists j []) → Among v (ends (get_or (get_or lists j []) n d))
+among_tags_of : (ends : ℤ → List ℕ) (i j n v : ℕ) (d : ℤ) (lists : List (List ℤ)) → j < length lists → n < length (get_or lists j [])
+    → Among v (ends (get_or (get_or lists j []) n d))
     → Among (i + j, (suc n, v)) (tags_of ends i lists)
 among_tags_of ends i j n v d [] below inside h = absurd (omega arith)
 among_tags_of ends i zero n v d (ids ∷ lists) below inside h =
@@ -63,10 +68,10 @@ among_tags_of ends i zero n v d (ids ∷ lists) below inside h =
     let here : Among {X = ℕ × (ℕ × ℕ)} (i, (suc n, v)) (tags_from ends i 0 ids) =
     subst (λ m. Among {X = ℕ × (ℕ × ℕ)} (i, (suc m, v)) (tags_from ends i 0 ids)) from_zero (among_tags_from ends i 0 n v d ids inside h) in
     subst (λ m. Among {X = ℕ × (ℕ × ℕ)} (m, (suc n, v)) (tags_of ends i (ids ∷ lists))) (sym same)
-    (among_append_left (i, (suc n, v)) (tags_from ends i 0 ids) (tags_of ends (suc i) lists) here)
+    (Among-left (i, (suc n, v)) (tags_from ends i 0 ids) (tags_of ends (suc i) lists) here)
 among_tags_of ends i (suc j) n v d (ids ∷ lists) below inside h =
     let same : suc i + j ≡ i + suc j = omega arith in
-    among_append_right (i + suc j, (suc n, v)) (tags_from ends i 0 ids) (tags_of ends (suc i) lists)
+    Among-right (i + suc j, (suc n, v)) (tags_from ends i 0 ids) (tags_of ends (suc i) lists)
     (subst (λ m. Among {X = ℕ × (ℕ × ℕ)} (m, (suc n, v)) (tags_of ends (suc i) lists)) same (among_tags_of ends (suc i) j n v d lists (omega arith) inside h))
 
 -- the last id of a front
@@ -85,7 +90,8 @@ no_word l e rest is = cc
 
 -- the last id of a node's front, by its place
 node_edge : (lists : List (List ℤ)) (nodes : List Node) (child : ℕ → ℤ → Option ℕ) → IsTrie lists nodes child → (x : ℕ) → x < length nodes → x ≢ 0
-    → (n : ℕ) × (((node_at nodes x).len ≡ suc n) × (n < length (list_at lists (node_at nodes x).list)) × (get_or (list_at lists (node_at nodes x).list) n (pos 0) ≡ (node_at nodes x).edge))
+    → (n : ℕ) × (((node_at nodes x).len ≡ suc n) × (n < length (list_at lists (node_at nodes x).list))
+    × (get_or (list_at lists (node_at nodes x).list) n (pos 0) ≡ (node_at nodes x).edge))
 node_edge lists nodes child trie x below some =
     by (node_at nodes x).len refl
   where
@@ -93,7 +99,8 @@ node_edge lists nodes child trie x below some =
     word_is = (trie.children (node_at nodes x).parent x (node_at nodes x).edge (trie.parents x below some)).2
 
     by : (len : ℕ) → (node_at nodes x).len ≡ len
-        → (n : ℕ) × (((node_at nodes x).len ≡ suc n) × (n < length (list_at lists (node_at nodes x).list)) × (get_or (list_at lists (node_at nodes x).list) n (pos 0) ≡ (node_at nodes x).edge))
+        → (n : ℕ) × (((node_at nodes x).len ≡ suc n) × (n < length (list_at lists (node_at nodes x).list))
+        × (get_or (list_at lists (node_at nodes x).list) n (pos 0) ≡ (node_at nodes x).edge))
     by zero e = absurd (no_word (list_at lists (node_at nodes x).list) _ _ (ap (λ m. reverse (take m (list_at lists (node_at nodes x).list))) (sym e) ∙ word_is))
     by (suc n) e =
         let inside : n < length (list_at lists (node_at nodes x).list) = omega (arith, e, (trie.fronts x below some).1) in
@@ -105,10 +112,6 @@ any_with edge links link (k, inside, is) same =
     list_any_at (λ (l : LinkOf ℕ). int_eq l.edge edge) links k link inside
     (ap (λ (l : LinkOf ℕ). int_eq l.edge edge) is ∙ ap (λ e. int_eq e edge) same ∙ ap is_eq (tied_itself int_cmp_total edge))
 
-or_right : (a b : Bool) → b ≡ true → a || b ≡ true
-or_right true b h = refl
-or_right false b h = h
-
 in_range : (count v : ℕ) → v < count → Contains (range_with_len 0 count) v
 in_range count v h = (v, omega (arith, length-range_with_len 0 count), get_or-range_with_len 0 count v v h ∙ omega arith)
 
@@ -116,7 +119,7 @@ head_is_end : (count : ℕ) (outs ins : ℕ → List (LinkOf ℕ)) (edge : ℤ) 
 head_is_end count outs ins edge v (link, (has, same, to)) =
     let below : v < count = subst (λ u. u < count) to has.0 in
     let there : Contains (ins v) link = subst (λ u. Contains (ins u) link) to has.1 in
-    among_contained v (ends_of count outs ins edge)
+    Among-from_Contains v (ends_of count outs ins edge)
     (filter_keeps (is_end outs ins edge) (range_with_len 0 count) v (in_range count v below)
     (or_right (list_any (λ (l : LinkOf ℕ). int_eq l.edge edge) (outs v)) (list_any (λ (l : LinkOf ℕ). int_eq l.edge edge) (ins v)) (any_with edge (ins v) link there same)))
 
@@ -127,13 +130,13 @@ module _ (count : ℕ) (outs ins : ℕ → List (LinkOf ℕ)) (lists : List (Lis
 
   node_good : (state : State) → Among state states → (state.node < length nodes) × (state.node ≢ 0)
   node_good state m =
-      let at = contains_among state states m in
+      let at = Contains-from_Among state states m in
       let range = All-get_or (λ (s : State). (0 < s.node) × (s.node < length nodes)) states at.0 state at.1 are.nodes_are in
       subst (λ (s : State). (s.node < length nodes) × (s.node ≢ 0)) at.2 (range.1, λ z. absurd (omega (arith, z, range.0)))
 
   head_good : (state : State) → Among state states → IsHead (IsLinkOf count ins) (node_at nodes state.node).edge state.vertex
   head_good state m =
-      let at = contains_among state states m in
+      let at = Contains-from_Among state states m in
       subst (λ (s : State). IsHead (IsLinkOf count ins) (node_at nodes s.node).edge s.vertex) at.2
       (All-get_or (λ (s : State). IsHead (IsLinkOf count ins) (node_at nodes s.node).edge s.vertex) states at.0 state at.1 are.heads_are)
 

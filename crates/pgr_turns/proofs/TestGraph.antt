@@ -22,7 +22,13 @@ module _ (outs ins : ℕ → List (LinkOf ℕ)) where
   four_for_all : (lists : List (List ℤ)) → sum_by (λ ids. sum_by (λ edge. length (ends_of 4 outs ins edge)) ids) lists ≤ 4 * elements lists
   four_for_all [] = omega arith
   four_for_all (ids ∷ lists) =
-      omega (arith, sum_by-cons (λ (es : List ℤ). sum_by (λ edge. length (ends_of 4 outs ins edge)) es) ids lists, sum_by-cons (λ (es : List ℤ). length es) ids lists, four_for_each ids, four_for_all lists)
+      omega (
+        arith,
+        sum_by-cons (λ (es : List ℤ). sum_by (λ edge. length (ends_of 4 outs ins edge)) es) ids lists,
+        sum_by-cons (λ (es : List ℤ). length es) ids lists,
+        four_for_each ids,
+        four_for_all lists,
+      )
 
   pub few_over_four : (count : ℕ) (lists : List (List ℤ)) → 4 ≡ count → elements lists ≤ 16 → most_states count outs ins lists < 2 ^ 32
   few_over_four count lists four few = subst (λ n. most_states n outs ins lists < 2 ^ 32) four (omega (arith, four_for_all lists, few))

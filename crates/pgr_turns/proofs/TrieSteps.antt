@@ -4,6 +4,7 @@ use Rattle.std.specs.Prelude.{reverse}
 use Rattle.std.specs.Ordering.{nat_cmp, int_cmp, is_eq}
 use Rattle.std.proofs.lemmas.Bool.{cases_lt}
 use Rattle.std.proofs.lemmas.List.{take_more, take_at, reverse-append, reverse-reverse, length-reverse, length-append, get_or_append_left, get_or_push, length_push, get_or_default}
+use Rattle.std.proofs.lemmas.Option.{same_Some}
 use Rattle.pgr_walks.specs.LinkOrders.{int_tie, nat_tie, then_tie}
 use Rattle.pgr_turns.specs.declared.trie.Node.{Node}
 use Rattle.pgr_turns.specs.Fronts.{IsFront}
@@ -29,9 +30,6 @@ none_some o x e f = let g = sym e ∙ f in absurd (no g)
   where
     no : None ≡ Some x → ⊥
     no g = cc
-
-same_some : {X : Type 0} (x y : X) → Some x ≡ Some y → x ≡ y
-same_some x y e = cc
 
 pub keeps_refl : (nodes : List Node) → Keeps nodes nodes
 keeps_refl nodes = record { longer = omega arith; same = λ x h. refl }
@@ -81,7 +79,8 @@ lasts_more lists nodes count lasts last h below is = record {
 pub word_root : (lists : List (List ℤ)) (nodes : List Node) (child : ℕ → ℤ → Option ℕ) → IsTrie lists nodes child → word lists nodes 0 ≡ []
 word_root lists nodes child trie = ap (λ len. front_of lists (node_at nodes 0).list len) trie.root
 
-module _ (lists : List (List ℤ)) (nodes : List Node) (child more : ℕ → ℤ → Option ℕ) (list len at : ℕ) (edge : ℤ) (trie : IsTrie lists nodes child) (room : length nodes + 1 < 2 ^ 32)
+module _ (lists : List (List ℤ)) (nodes : List Node) (child more : ℕ → ℤ → Option ℕ) (list len at : ℕ) (edge : ℤ) (trie : IsTrie lists nodes child)
+    (room : length nodes + 1 < 2 ^ 32)
     (inside : list < length lists) (short : len < length (list_at lists list)) (below : at < length nodes) (is : word lists nodes at ≡ front_of lists list len)
     (edge_is : edge ≡ get_or (list_at lists list) len (pos 0)) (none : child at edge ≡ None) (hit : more at edge ≡ Some (length nodes))
     (others : (a : ℕ) (e : ℤ) → is_eq (key_cmp (at, edge) (a, e)) ≡ false → more a e ≡ child a e) where
@@ -160,7 +159,7 @@ module _ (lists : List (List ℤ)) (nodes : List Node) (child more : ℕ → ℤ
       children a x e true q h =
           let same = same_key at a edge e q in
           let there : more a e ≡ Some (length nodes) = subst (λ f. more a f ≡ Some (length nodes)) same.1 (subst (λ b. more b edge ≡ Some (length nodes)) same.0 hit) in
-          let last : length nodes ≡ x = same_some (length nodes) x (sym there ∙ h) in
+          let last : length nodes ≡ x = same_Some (length nodes) x (sym there ∙ h) in
           let a_below : a < length nodes = subst (λ b. b < length nodes) same.0 below in (
             omega (arith, size_grown),
             omega (arith, size_grown),
@@ -213,7 +212,8 @@ front_short : (r rest ids : List ℤ) → reverse r ≡ rest ++ ids → length i
 front_short r rest ids whole = omega (arith, length-reverse r, ap length whole, length-append rest ids)
 
 -- where every first ids of a restriction are the front of a node, every front is
-pub front_is_word : (lists : List (List ℤ)) (nodes : List Node) → ((i : ℕ) → i < length lists → HasFronts lists nodes i (length (list_at lists i))) → (ids : List ℤ) → IsFront lists ids → HasWord lists nodes ids
+pub front_is_word : (lists : List (List ℤ)) (nodes : List Node) → ((i : ℕ) → i < length lists → HasFronts lists nodes i (length (list_at lists i))) → (ids : List ℤ)
+    → IsFront lists ids → HasWord lists nodes ids
 front_is_word lists nodes all ids front =
     let i = front.among.0 in
     let r_is : list_at lists i ≡ front.of = get_or_default lists i [] front.of front.among.1 ∙ front.among.2 in
@@ -244,7 +244,8 @@ complete_from lists nodes child trie all a e below front none = by there.0 there
         none_some (child a e) (suc x) none (subst (λ b. child b e ≡ Some (suc x)) ats (subst (λ f. child (node_at nodes (suc x)).parent f ≡ Some (suc x)) edges p))
 
 -- the first node alone
-pub bare_trie : (lists : List (List ℤ)) (child : ℕ → ℤ → Option ℕ) → ((a : ℕ) (e : ℤ) → child a e ≡ None) → IsTrie lists (record { list = 0; len = 0; parent = 0; edge = pos 0 } ∷ []) child
+pub bare_trie : (lists : List (List ℤ)) (child : ℕ → ℤ → Option ℕ) → ((a : ℕ) (e : ℤ) → child a e ≡ None)
+    → IsTrie lists (record { list = 0; len = 0; parent = 0; edge = pos 0 } ∷ []) child
 bare_trie lists child none = record {
   some = omega arith;
   small = omega arith;
@@ -256,7 +257,8 @@ bare_trie lists child none = record {
 }
 
 -- the fronts up to one id more
-pub fronts_more : (lists : List (List ℤ)) (old new : List Node) (i len x : ℕ) → HasFronts lists old i len → Keeps old new → x < length new → word lists new x ≡ front_of lists i (len + 1)
+pub fronts_more : (lists : List (List ℤ)) (old new : List Node) (i len x : ℕ) → HasFronts lists old i len → Keeps old new → x < length new
+    → word lists new x ≡ front_of lists i (len + 1)
     → HasFronts lists new i (len + 1)
 fronts_more lists old new i len x h keeps below is k at_most = by (cases_lt k (len + 1))
   where

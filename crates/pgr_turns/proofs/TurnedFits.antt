@@ -6,13 +6,15 @@ use Rattle.std.proofs.lemmas.Nat.{mul-le}
 use Rattle.pgr_walks.specs.declared.link.LinkOf.{LinkOf}
 use Rattle.pgr_walks.specs.Walk.{IsWalk, IsLooplessRoute, cost_of, vertices_of}
 use Rattle.pgr_walks.specs.Graph.{IsLinkOf, Fits, greatest}
+use Rattle.pgr_walks.proofs.Repeats.{Among, Apart, Apart-from_IsWithoutRepeats, IsWithoutRepeats-from_Apart}
+use Rattle.pgr_walks.proofs.Membership.{Among-from_Contains}
 use Rattle.pgr_turns.specs.declared.state.State.{State}
 use Rattle.pgr_turns.specs.declared.trie.Node.{Node}
 use Rattle.pgr_turns.specs.declared.trie.Back.{Back}
 use Rattle.pgr_turns.specs.Trie.{word, elements, IsAutomaton}
 use Rattle.pgr_turns.specs.States.{AreStates, node_of, vertex_of}
 use Rattle.pgr_turns.specs.Turned.{beneath, IsTurned}
-use Rattle.pgr_turns.proofs.Counting.{Among, Apart, apart_from, among_contained, without_from, apart_map}
+use Rattle.pgr_turns.proofs.Counting.{apart_map}
 use Rattle.pgr_turns.proofs.FitsSteps.{route_cost}
 use Rattle.pgr_turns.proofs.MovingSteps.{state_range}
 use Rattle.pgr_turns.proofs.TurnedWalks.{is_beneath, cost_beneath}
@@ -39,7 +41,8 @@ module _ (count : ℕ) (ins : ℕ → List (LinkOf ℕ)) (lists : List (List ℤ
   node_below : (x : ℕ) → x < count + length states → node_of count states x < length nodes
   node_below x inside = (state_range count ins nodes backs states are auto.trie.some x inside).0
 
-  one_state : (x y : ℕ) → x < count + length states → y < count + length states → node_of count states x ≡ node_of count states y → vertex_of count states x ≡ vertex_of count states y → x ≡ y
+  one_state : (x y : ℕ) → x < count + length states → y < count + length states → node_of count states x ≡ node_of count states y
+      → vertex_of count states x ≡ vertex_of count states y → x ≡ y
   one_state x y at_x at_y node vertex = turned.one x y at_x at_y (ap (word lists nodes) node) vertex
 
   link_beneath : (link : LinkOf ℕ) → Has link → IsLinkOf count ins (beneath (vertex_of count states) link)
@@ -53,15 +56,17 @@ module _ (count : ℕ) (ins : ℕ → List (LinkOf ℕ)) (lists : List (List ℤ
         let more = some_times (cost_of links) (elements lists) in
         omega (arith, cost, more, bound);
     routes = λ s t walk route.
-        let sum = route_cost (count + length states) Has (node_of count states) (vertex_of count states) turned.ends one_state (length nodes) links node_below among s t walk route.is_walk route.loopless in
+        let sum = route_cost (count + length states) Has (node_of count states) (vertex_of count states) turned.ends one_state (length nodes) links node_below among s t walk
+        route.is_walk route.loopless in
         let more = times_more (cost_of links) (length nodes) (1 + elements lists) auto.few in
         omega (arith, sum, more, bound);
   }
     where
       among : (link : LinkOf ℕ) → Has link → Among (beneath (vertex_of count states) link) links
-      among link has = among_contained (beneath (vertex_of count states) link) links (all (beneath (vertex_of count states) link) (link_beneath link has))
+      among link has = Among-from_Contains (beneath (vertex_of count states) link) links (all (beneath (vertex_of count states) link) (link_beneath link has))
 
-  walk_beneath : (s t : ℕ) (walk : List (LinkOf ℕ)) → IsWalk Has s walk t → IsWalk (IsLinkOf count ins) (vertex_of count states s) (map (beneath (vertex_of count states)) walk) (vertex_of count states t)
+  walk_beneath : (s t : ℕ) (walk : List (LinkOf ℕ)) → IsWalk Has s walk t → IsWalk (IsLinkOf count ins) (vertex_of count states s) (map (beneath (vertex_of count states)) walk)
+      (vertex_of count states t)
   walk_beneath s t [] w = ap (vertex_of count states) w
   walk_beneath s t (link ∷ walk) w = (link_beneath link w.0, ap (vertex_of count states) w.1, walk_beneath link.to t walk w.2)
 
@@ -86,13 +91,14 @@ module _ (count : ℕ) (ins : ℕ → List (LinkOf ℕ)) (lists : List (List ℤ
         let w = route.is_walk in
         let s_below : s < count + length states = subst (λ y. y < count + length states) w.1 (turned.ends link w.0).0 in
         let below : (x : ℕ) → Among x (vertices_of s (link ∷ walk)) → x < count + length states = λ x m. state_of x m s_below w in
-        let apart = apart_map vertex (vertices_of s (link ∷ walk)) (apart_from (vertices_of s (link ∷ walk)) route.loopless) (λ x y mx my. vertex_one x y (below x mx) (below y my)) in
+        let apart = apart_map vertex (vertices_of s (link ∷ walk)) (Apart-from_IsWithoutRepeats (vertices_of s (link ∷ walk)) route.loopless)
+        (λ x y mx my. vertex_one x y (below x mx) (below y my)) in
         let apart' = subst (λ vs. Apart vs) (vertices_beneath vertex s (link ∷ walk)) apart in
         let t_below : t < count + length states = last_below (link ∷ walk) s w s_below in
         let bound = fits.routes (vertex s) (vertex t) (map (beneath vertex) (link ∷ walk)) (record {
           is_walk = walk_beneath s t (link ∷ walk) w;
           ends_differ = λ e. route.ends_differ (vertex_one s t s_below t_below e);
-          loopless = without_from (vertices_of (vertex s) (map (beneath vertex) (link ∷ walk))) apart';
+          loopless = IsWithoutRepeats-from_Apart (vertices_of (vertex s) (map (beneath vertex) (link ∷ walk))) apart';
         }) in
         subst (λ c. c ≤ greatest) (cost_beneath count ins lists (count + length states) vertex (λ x. word lists nodes (node_of count states x)) Has turned (link ∷ walk)) bound
       where

@@ -1,5 +1,5 @@
 -- The states and their links are the graph of states.
-use Rattle.std.proofs.Common.{◌≡◌, ◌⊎◌, ◌↔◌, inl, inr, ℕ, ℤ, zero, suc, ◌+◌, ◌-◌, ◌<◌, ◌≤◌, cond, ltb, false, List, [], ◌∷◌, length, take, drop, get_or, Option, sym, ap, ◌∙◌, subst, arith, Ordering, Less, Equal}
+use Rattle.std.proofs.Common.{◌≡◌, ◌≢◌, ◌⊎◌, ◌↔◌, inl, inr, ℕ, ℤ, zero, suc, ◌+◌, ◌-◌, ◌<◌, ◌≤◌, cond, ltb, true, false, List, [], ◌∷◌, length, take, drop, get_or, Option, refl, sym, ap, ◌∙◌, subst, arith, Ordering, Less, Equal}
 use Rattle.std.specs.Prelude.{reverse, Contains, All}
 use Rattle.std.specs.Ordering.{nat_cmp, ordering_then}
 use Rattle.std.proofs.lemmas.Bool.{cases_lt, lt-ltb}
@@ -13,13 +13,14 @@ use Rattle.pgr_walks.specs.ListGraphLaws.{holds_from_Contains}
 use Rattle.pgr_turns.specs.declared.state.State.{State}
 use Rattle.pgr_turns.specs.declared.trie.Node.{Node}
 use Rattle.pgr_turns.specs.declared.trie.Back.{Back}
-use Rattle.pgr_turns.specs.Fronts.{IsFront, IsLongest}
-use Rattle.pgr_turns.specs.Trie.{node_at, list_at, word, IsTrie, IsAutomaton}
+use Rattle.pgr_turns.specs.Fronts.{IsFront, Completes, IsLongest}
+use Rattle.pgr_turns.specs.Trie.{node_at, back_at, list_at, word, IsTrie, IsAutomaton}
 use Rattle.pgr_turns.specs.Turned.{beneath, IsTurned}
 use Rattle.pgr_turns.specs.States.{state_at, node_of, vertex_of, AreStates, IsHead}
 use Rattle.pgr_turns.specs.Moving.{IsMoved, MovesAll}
 use Rattle.pgr_turns.proofs.FrontLemmas.{longest_one}
 use Rattle.pgr_turns.proofs.TrieSteps.{word_root}
+use Rattle.pgr_turns.proofs.AutomatonSteps.{root_back}
 
 -- the front of a node is a front, or empty
 pub node_front : (lists : List (List ℤ)) (nodes : List Node) (child : ℕ → ℤ → Option ℕ) → IsTrie lists nodes child → (x : ℕ) → x < length nodes
@@ -66,7 +67,12 @@ module _ (count : ℕ) (outs ins : ℕ → List (LinkOf ℕ)) (law : IsLawful co
   head_range : (x : ℕ) → count ≤ x → x < count + length states → IsHead (IsLinkOf count ins) (node_at nodes (state_in x).node).edge (state_in x).vertex
   unfolding state_in
   head_range x h inside =
-      All-get_or (λ state. IsHead (IsLinkOf count ins) (node_at nodes state.node).edge state.vertex) states (x - count) (record { node = 0; vertex = 0 }) (omega arith) are.heads_are
+      All-get_or (λ state. IsHead (IsLinkOf count ins) (node_at nodes state.node).edge state.vertex) states (x - count) (record { node = 0; vertex = 0 })
+      (omega arith) are.heads_are
+
+  live_range : (x : ℕ) → count ≤ x → x < count + length states → (back_at backs (state_in x).node).forbids ≡ false
+  unfolding state_in
+  live_range x h inside = All-get_or (λ state. (back_at backs state.node).forbids ≡ false) states (x - count) (record { node = 0; vertex = 0 }) (omega arith) are.live
 
   rise_at : (x y : ℕ) → count ≤ x → x < y → y < count + length states
       → ordering_then (nat_cmp (state_in x).node (state_in y).node) (nat_cmp (state_in x).vertex (state_in y).vertex) ≡ Less
@@ -97,7 +103,8 @@ module _ (count : ℕ) (outs ins : ℕ → List (LinkOf ℕ)) (law : IsLawful co
       lesser : (p q : ℕ) → count ≤ p → p < q → q < count + length states → node_of count states p ≡ node_of count states q → vertex_of count states p < vertex_of count states q
       lesser p q hp less hq same =
           let nodes_equal : (state_in p).node ≡ (state_in q).node = sym (ap (λ (s : State). s.node) (more_is p hp)) ∙ same ∙ ap (λ (s : State). s.node) (more_is q (omega arith)) in
-          let tied : nat_cmp (state_in p).node (state_in q).node ≡ Equal = subst (λ n. nat_cmp (state_in p).node n ≡ Equal) nodes_equal (tied_itself nat_cmp_total (state_in p).node) in
+          let tied : nat_cmp (state_in p).node (state_in q).node ≡ Equal = subst (λ n. nat_cmp (state_in p).node n ≡ Equal) nodes_equal
+          (tied_itself nat_cmp_total (state_in p).node) in
           let vertices = second_less (nat_cmp (state_in p).node (state_in q).node) (nat_cmp (state_in p).vertex (state_in q).vertex) tied (rise_at p q hp less hq) in
           let below : (state_in p).vertex < (state_in q).vertex = ranked (state_in p).vertex (state_in q).vertex Less (sym vertices) in
           let vp = ap (λ (s : State). s.vertex) (more_is p hp) in
@@ -120,7 +127,8 @@ module _ (count : ℕ) (outs ins : ℕ → List (LinkOf ℕ)) (law : IsLawful co
           absurd (omega (arith, nx, ny, (node_range x hx bx).0))
       at (inr hx) (inr hy) = by_places (cases_lt x y) (cases_lt y x)
         where
-          by_places : (x < y) ⊎ (y ≤ x) → (y < x) ⊎ (x ≤ y) → (vertex_of count states x < vertex_of count states y → x < y) × (vertex_of count states x ≡ vertex_of count states y → x ≡ y)
+          by_places : (x < y) ⊎ (y ≤ x) → (y < x) ⊎ (x ≤ y) → (vertex_of count states x < vertex_of count states y → x < y)
+              × (vertex_of count states x ≡ vertex_of count states y → x ≡ y)
           by_places (inl less) _ = let k = lesser x y hx less by nodes_same in ((λ h. less), (λ h. absurd (omega (arith, h, k))))
           by_places (inr past) (inl less) = let k = lesser y x hy less bx (sym nodes_same) in ((λ h. absurd (omega (arith, h, k))), (λ h. absurd (omega (arith, h, k))))
           by_places (inr past) (inr behind) =
@@ -130,8 +138,56 @@ module _ (count : ℕ) (outs ins : ℕ → List (LinkOf ℕ)) (law : IsLawful co
   moved_at : (link : LinkOf ℕ) → Has link → IsMoved count outs lists nodes states link
   moved_at link h = All-contains (IsMoved count outs lists nodes states) links link moved ((has link).0 h)
 
-  live : (x : ℕ) → x < count + length states → (word lists nodes (node_of count states x) ≡ []) ⊎ IsFront lists (word lists nodes (node_of count states x))
-  live x inside = node_front lists nodes child auto.trie (node_of count states x) (node_below x inside)
+  front_in : (x : ℕ) → x < count + length states → (word lists nodes (node_of count states x) ≡ []) ⊎ IsFront lists (word lists nodes (node_of count states x))
+  front_in x inside = node_front lists nodes child auto.trie (node_of count states x) (node_below x inside)
+
+  plain_front_at : (x : ℕ) → x < count → word lists nodes (node_of count states x) ≡ []
+  plain_front_at x h = ap (λ (s : State). word lists nodes s.node) (state_plain count states x h) ∙ word_root lists nodes child auto.trie
+
+  front_at : (x : ℕ) → x < count + length states → word lists nodes (node_of count states x) ≢ [] → (IsFront lists (word lists nodes (node_of count states x)) → ⊥) → ⊥
+  front_at x inside some other = by (front_in x inside)
+    where
+      by : (word lists nodes (node_of count states x) ≡ []) ⊎ IsFront lists (word lists nodes (node_of count states x)) → ⊥
+      by (inl none) = some none
+      by (inr front) = other front
+
+  -- neither the root nor the node of a state completes a restriction
+  live_at : (x : ℕ) → x < count + length states → Completes lists (word lists nodes (node_of count states x)) → ⊥
+  live_at x inside done = by (cases_lt x count)
+    where
+      no : false ≡ true → ⊥
+      no e = cc
+
+      by : (x < count) ⊎ (count ≤ x) → ⊥
+      by (inl h) =
+          let at_root = subst (λ (s : State). Completes lists (word lists nodes s.node)) (state_plain count states x h) done in
+          no ((root_back lists nodes 0 refl (word_root lists nodes child auto.trie)).done at_root)
+      by (inr h) =
+          let there = subst (λ (s : State). Completes lists (word lists nodes s.node)) (more_is x h) done in
+          no (sym (live_range x h inside) ∙ (auto.backs_are (state_in x).node (node_range x h inside).1).done there)
+
+  -- the last edge of a node's front is that of the node
+  last_edge : (x : ℕ) (edge : ℤ) (before : List ℤ) → 0 < x → x < length nodes → word lists nodes x ≡ edge ∷ before → (node_at nodes x).edge ≡ edge
+  last_edge x edge before some below is =
+      let node = node_at nodes x in
+      let made = (auto.trie.children node.parent x node.edge (auto.trie.parents x below (λ e. absurd (omega (arith, e, some))))).2 in
+      let same : node.edge ∷ word lists nodes node.parent ≡ edge ∷ before = sym made ∙ is in
+      cc
+
+  heads_at : (x : ℕ) (edge : ℤ) (before : List ℤ) → x < count + length states → word lists nodes (node_of count states x) ≡ edge ∷ before
+      → IsHead (IsLinkOf count ins) edge (vertex_of count states x)
+  heads_at x edge before inside is = by (cases_lt x count)
+    where
+      no : [] ≡ edge ∷ before → ⊥
+      no e = cc
+
+      by : (x < count) ⊎ (count ≤ x) → IsHead (IsLinkOf count ins) edge (vertex_of count states x)
+      by (inl h) = absurd (no (sym (plain_front_at x h) ∙ is))
+      by (inr h) =
+          let there = sym (ap (λ (s : State). word lists nodes s.node) (more_is x h)) ∙ is in
+          let range = node_range x h inside in
+          subst (λ (s : State). IsHead (IsLinkOf count ins) edge s.vertex) (sym (more_is x h))
+          (subst (λ e. IsHead (IsLinkOf count ins) e (state_in x).vertex) (last_edge (state_in x).node edge before range.0 range.1 there) (head_range x h inside))
 
   one_node : (x y : ℕ) → x < count + length states → y < count + length states → word lists nodes (node_of count states x) ≡ word lists nodes (node_of count states y)
       → node_of count states x ≡ node_of count states y
@@ -141,8 +197,11 @@ module _ (count : ℕ) (outs ins : ℕ → List (LinkOf ℕ)) (law : IsLawful co
   turned_made = record {
     large = omega arith;
     plain_vertex = λ v h. ap (λ (s : State). s.vertex) (state_plain count states v h);
-    plain_front = λ v h. ap (λ (s : State). word lists nodes s.node) (state_plain count states v h) ∙ word_root lists nodes child auto.trie;
+    plain_front = plain_front_at;
     inside = inside_at;
+    fronts = front_at;
+    live = live_at;
+    heads = λ x edge before inside is none. none (heads_at x edge before inside is);
     rises = λ x y bx by same less. (order_at x y bx by (one_node x y bx by same)).0 less;
     one = λ x y bx by same equal. (order_at x y bx by (one_node x y bx by same)).1 equal;
     ends = λ link h. let m = moved_at link h in (m.from_below, m.to_below);
@@ -159,7 +218,7 @@ module _ (count : ℕ) (outs ins : ℕ → List (LinkOf ℕ)) (law : IsLawful co
         let o_longest : IsLongest lists (link.edge ∷ word lists nodes (node_of count states link.from)) (word lists nodes (node_of count states other.to)) =
         subst (λ e. IsLongest lists (e ∷ word lists nodes (node_of count states link.from)) (word lists nodes (node_of count states other.to))) (sym edge)
         (subst (λ x. IsLongest lists (other.edge ∷ word lists nodes (node_of count states x)) (word lists nodes (node_of count states other.to))) (sym from) o.longest) in
-        longest_one lists (link.edge ∷ word lists nodes (node_of count states link.from)) _ _ (live link.to m.to_below) (live other.to o.to_below) m.longest o_longest;
+        longest_one lists (link.edge ∷ word lists nodes (node_of count states link.from)) _ _ (front_in link.to m.to_below) (front_in other.to o.to_below) m.longest o_longest;
     reaches = λ x link inside is from free found.
         let from_below : link.from < count = subst (λ v. v < count) (sym from) (inside_at x inside) in
         let out = (law.both link from_below is.0).1 is.1 in

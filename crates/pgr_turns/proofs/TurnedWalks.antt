@@ -1,11 +1,11 @@
 -- Walks of states are the walks beneath that meet no restriction, and are in the same order.
-use Rattle.std.proofs.Common.{◌≡◌, ◌≢◌, ◌↔◌, ℕ, ℤ, ◌+◌, ◌<◌, cond, ◌==◌, List, [], ◌∷◌, map, length, refl, sym, ap, ◌∙◌, subst, arith, ⊎_elim, Ordering, Less, Equal, Greater}
+use Rattle.std.proofs.Common.{◌≡◌, ◌≢◌, ◌↔◌, ℕ, ℤ, ◌+◌, ◌<◌, List, [], ◌∷◌, map, length, refl, sym, ap, ◌∙◌, subst, arith, ⊎_elim, Ordering, Less, Equal, Greater}
 use Rattle.std.specs.Prelude.{Contains}
-use Rattle.std.specs.Ordering.{nat_cmp, int_cmp, ordering_then, ordering_reverse}
+use Rattle.std.specs.Ordering.{nat_cmp, int_cmp, ordering_then}
 use Rattle.std.specs.Cmp.Lexicographic.{slice_cmp}
-use Rattle.std.proofs.lemmas.Bool.{cases_lt, lt-ltb}
-use Rattle.std.proofs.lemmas.Cmp.{nat_cmp_total, tied_itself}
+use Rattle.std.proofs.lemmas.Bool.{cases_lt}
 use Rattle.std.proofs.lemmas.List.{length-map}
+use Rattle.std.specs.Cmp.{nat_cmp_is}
 use Rattle.pgr_walks.specs.declared.link.LinkOf.{LinkOf}
 use Rattle.pgr_walks.specs.Link.{step_cmp}
 use Rattle.pgr_walks.specs.LinkOrders.{int_tie, nat_tie, then_tie}
@@ -20,21 +20,12 @@ use Rattle.pgr_turns.specs.Turned.{beneath, IsTurned}
 use Rattle.pgr_turns.proofs.FrontLemmas.{longest_step, longest_none, completes_front, completes_edges, Begins-more}
 use Rattle.pgr_turns.proofs.AllowedSteps.{avoids_allowed, allowed_avoids}
 
--- how a number compares
-lt_is : (x y : ℕ) → x < y → nat_cmp x y ≡ Less
-lt_is x y h = ap (λ b. cond b Less (cond (x == y) Equal Greater)) (lt-ltb x y h)
-
-gt_is : (x y : ℕ) → y < x → nat_cmp x y ≡ Greater
-gt_is x y h = nat_cmp_total.antisymm x y ∙ ap ordering_reverse (lt_is y x h)
-
-eq_is : (x y : ℕ) → x ≡ y → nat_cmp x y ≡ Equal
-eq_is x y h = subst (λ z. nat_cmp x z ≡ Equal) h (tied_itself nat_cmp_total x)
-
 -- two numbers compare as two others that stand in the same order
 same_cmp : (x y u v : ℕ) → (u < v → x < y) → (u ≡ v → x ≡ y) → (v < u → y < x) → nat_cmp x y ≡ nat_cmp u v
 same_cmp x y u v less equal greater =
-    ⊎_elim (λ h. lt_is x y (less h) ∙ sym (lt_is u v h))
-    (λ h. ⊎_elim (λ k. gt_is x y (greater k) ∙ sym (gt_is u v k)) (λ k. let e : u ≡ v = omega arith in eq_is x y (equal e) ∙ sym (eq_is u v e)) (cases_lt v u)) (cases_lt u v)
+    ⊎_elim (λ h. sym (nat_cmp_is x y Less (less h)) ∙ nat_cmp_is u v Less h)
+    (λ h. ⊎_elim (λ k. sym (nat_cmp_is x y Greater (greater k)) ∙ nat_cmp_is u v Greater k)
+    (λ k. let e : u ≡ v = omega arith in sym (nat_cmp_is x y Equal (equal e)) ∙ nat_cmp_is u v Equal e) (cases_lt v u)) (cases_lt u v)
 
 -- what follows counts only where the first compare as equal
 then_same : (o o' p p' : Ordering) → o ≡ o' → (o ≡ Equal → p ≡ p') → ordering_then o p ≡ ordering_then o' p'

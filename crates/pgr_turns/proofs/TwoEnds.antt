@@ -6,13 +6,16 @@ use Rattle.std.specs.Cmp.{Equal-is}
 use Rattle.std.specs.List.{list_any, range_with_len, sum_by}
 use Rattle.std.proofs.lemmas.List.FromFn.{get_or-range_with_len, length-range_with_len}
 use Rattle.std.proofs.lemmas.List.Sums.{sum_by-cons}
+use Rattle.std.proofs.lemmas.Bool.{or_cases}
 use Rattle.pgr_walks.specs.declared.link.LinkOf.{LinkOf}
 use Rattle.pgr_walks.specs.Graph.{IsLinkOf, IsLawful}
 use Rattle.pgr_walks.specs.ListGraphLaws.{filter_gives}
 use Rattle.pgr_walks.specs.LinkOrders.{int_tie}
+use Rattle.pgr_walks.proofs.Repeats.{Among, Apart}
+use Rattle.pgr_walks.proofs.Membership.{Among-from_Contains, Contains-from_Among}
 use Rattle.pgr_turns.specs.Trie.{elements}
 use Rattle.pgr_turns.specs.MostStates.{is_end, ends_of, most_states, HasSameEnds}
-use Rattle.pgr_turns.proofs.Counting.{Among, Apart, total_ones, sub_total, among_contained, contains_among}
+use Rattle.pgr_turns.proofs.Counting.{total_ones, sub_total}
 
 -- an element that passes a test
 any_gives : {X : Type 0} (p : X → Bool) (xs : List X) → list_any p xs ≡ true → (x : X) × (Contains xs x × (p x ≡ true))
@@ -47,35 +50,43 @@ apart_filter {X} p (x ∷ xs) h = at (p x) refl (apart_filter p xs h.1)
     at : (b : Bool) → p x ≡ b → Apart (filter p xs) → Apart (cond (p x) (x ∷ filter p xs) (filter p xs))
     at true e rest =
         subst (λ c. Apart (cond c (x ∷ filter p xs) (filter p xs))) (sym e)
-        (λ m. h.0 (among_contained x xs (filter_gives p xs x (contains_among x (filter p xs) m)).0), rest)
+        (λ m. h.0 (Among-from_Contains x xs (filter_gives p xs x (Contains-from_Among x (filter p xs) m)).0), rest)
     at false e rest = subst (λ c. Apart (cond c (x ∷ filter p xs) (filter p xs))) (sym e) rest
-
--- one of two tests passes
-either : (a b : Bool) → a || b ≡ true → (a ≡ true) ⊎ (b ≡ true)
-either true b h = inl refl
-either false b h = inr h
 
 module _ (count : ℕ) (outs ins : ℕ → List (LinkOf ℕ)) (law : IsLawful count outs ins)
     (pairs : (link other : LinkOf ℕ) → IsLinkOf count ins link → IsLinkOf count ins other → link.edge ≡ other.edge → HasSameEnds link other) where
   -- an end is that of a link
-  link_at_end : (edge : ℤ) (v : ℕ) → v < count → is_end outs ins edge v ≡ true → (link : LinkOf ℕ) × (IsLinkOf count ins link × (link.edge ≡ edge) × ((link.from ≡ v) ⊎ (link.to ≡ v)))
+  link_at_end : (edge : ℤ) (v : ℕ) → v < count → is_end outs ins edge v ≡ true → (link : LinkOf ℕ)
+      × (IsLinkOf count ins link × (link.edge ≡ edge) × ((link.from ≡ v) ⊎ (link.to ≡ v)))
   link_at_end edge v below h = ⊎_elim
       (λ out.
       let found = any_gives (λ (l : LinkOf ℕ). int_eq l.edge edge) (outs v) out in
       let link = found.0 in
       let ends = (law.at v below).out_ends link found.1.0 in
-      let from_below : link.from < count = subst (λ u. u < count) (sym ends.0) below in
-      (link, ((ends.1, (law.both link from_below ends.1).0 (subst (λ u. Contains (outs u) link) (sym ends.0) found.1.0)), int_tie link.edge edge ((Equal-is (int_cmp link.edge edge)).0 found.1.1), inl ends.0)))
+      let from_below : link.from < count = subst (λ u. u < count) (sym ends.0) below in (
+        link,
+        (
+          (ends.1, (law.both link from_below ends.1).0 (subst (λ u. Contains (outs u) link) (sym ends.0) found.1.0)),
+          int_tie link.edge edge ((Equal-is (int_cmp link.edge edge)).0 found.1.1),
+          inl ends.0,
+        ),
+      ))
       (λ into.
       let found = any_gives (λ (l : LinkOf ℕ). int_eq l.edge edge) (ins v) into in
       let link = found.0 in
-      let ends = (law.at v below).in_ends link found.1.0 in
-      (link, ((subst (λ u. u < count) (sym ends.0) below, subst (λ u. Contains (ins u) link) (sym ends.0) found.1.0), int_tie link.edge edge ((Equal-is (int_cmp link.edge edge)).0 found.1.1), inr ends.0)))
-      (either (list_any (λ (l : LinkOf ℕ). int_eq l.edge edge) (outs v)) (list_any (λ (l : LinkOf ℕ). int_eq l.edge edge) (ins v)) h)
+      let ends = (law.at v below).in_ends link found.1.0 in (
+        link,
+        (
+          (subst (λ u. u < count) (sym ends.0) below, subst (λ u. Contains (ins u) link) (sym ends.0) found.1.0),
+          int_tie link.edge edge ((Equal-is (int_cmp link.edge edge)).0 found.1.1),
+          inr ends.0,
+        ),
+      ))
+      (or_cases (list_any (λ (l : LinkOf ℕ). int_eq l.edge edge) (outs v)) (list_any (λ (l : LinkOf ℕ). int_eq l.edge edge) (ins v)) h)
 
   link_of_end : (edge : ℤ) (v : ℕ) → Among v (ends_of count outs ins edge) → (link : LinkOf ℕ) × (IsLinkOf count ins link × (link.edge ≡ edge) × ((link.from ≡ v) ⊎ (link.to ≡ v)))
   link_of_end edge v m =
-      let given = filter_gives (is_end outs ins edge) (range_with_len 0 count) v (contains_among v (ends_of count outs ins edge) m) in
+      let given = filter_gives (is_end outs ins edge) (range_with_len 0 count) v (Contains-from_Among v (ends_of count outs ins edge) m) in
       let size = length-range_with_len 0 count in
       let i = given.0.0 in
       let inside : i < count = omega (arith, size, given.0.1) in
@@ -99,7 +110,8 @@ module _ (count : ℕ) (outs ins : ℕ → List (LinkOf ℕ)) (law : IsLawful co
       at [] e = omega (arith, ap (λ (vs : List ℕ). length vs) e)
       at (v ∷ vs) e =
           let first = link_of_end edge v (subst (λ us. Among v us) (sym e) (inl refl)) in
-          let sum = sub_total (λ _. 1) (ends_of count outs ins edge) (first.0.from ∷ first.0.to ∷ []) (apart_filter (is_end outs ins edge) (range_with_len 0 count) (apart_range 0 count))
+          let sum = sub_total (λ _. 1) (ends_of count outs ins edge) (first.0.from ∷ first.0.to ∷ [])
+          (apart_filter (is_end outs ins edge) (range_with_len 0 count) (apart_range 0 count))
           (one_of_two edge first.0 first.1.0 first.1.1) in
           omega (arith, sum, total_ones (ends_of count outs ins edge))
 
@@ -110,7 +122,13 @@ module _ (count : ℕ) (outs ins : ℕ → List (LinkOf ℕ)) (law : IsLawful co
   lists_few : (lists : List (List ℤ)) → sum_by (λ ids. sum_by (λ edge. length (ends_of count outs ins edge)) ids) lists ≤ 2 * elements lists
   lists_few [] = omega arith
   lists_few (ids ∷ lists) =
-      omega (arith, sum_by-cons (λ (es : List ℤ). sum_by (λ edge. length (ends_of count outs ins edge)) es) ids lists, sum_by-cons (λ (es : List ℤ). length es) ids lists, ids_few ids, lists_few lists)
+      omega (
+        arith,
+        sum_by-cons (λ (es : List ℤ). sum_by (λ edge. length (ends_of count outs ins edge)) es) ids lists,
+        sum_by-cons (λ (es : List ℤ). length es) ids lists,
+        ids_few ids,
+        lists_few lists,
+      )
 
   pub few_states : (lists : List (List ℤ)) → most_states count outs ins lists ≤ count + 2 * elements lists
   few_states lists = omega (arith, lists_few lists)

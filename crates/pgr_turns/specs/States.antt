@@ -11,10 +11,11 @@ use Rattle.pgr_turns.specs.declared.trie.Node.{Node}
 use Rattle.pgr_turns.specs.declared.trie.Back.{Back}
 use Rattle.pgr_turns.specs.Trie.{node_at, back_at}
 
--- the orders of states and of heads
+-- the order of states: by node, then by vertex
 abbrev pub state_cmp : State → State → Ordering
 state_cmp a b = ordering_then (nat_cmp a.node b.node) (nat_cmp a.vertex b.vertex)
 
+-- the order of heads: by edge, then by vertex
 abbrev pub head_cmp : Head → Head → Ordering
 head_cmp a b = ordering_then (int_cmp a.edge b.edge) (nat_cmp a.vertex b.vertex)
 
@@ -40,6 +41,7 @@ pub record AreHeads (Has : LinkOf ℕ → Type 0) (heads : List Head) : Type 0 w
 pub record AreStates (Has : LinkOf ℕ → Type 0) (nodes : List Node) (backs : List Back) (below : ℕ) (states : List State) : Type 0 where
   pub nodes_are : All (λ state. (0 < state.node) × (state.node < below)) states
   pub heads_are : All (λ state. IsHead Has (node_at nodes state.node).edge state.vertex) states
+  pub live : All (λ state. (back_at backs state.node).forbids ≡ false) states
   pub rise : IsStrictlyRising state_cmp states
   pub each : (x v : ℕ) → x < below → x ≢ 0 → (back_at backs x).forbids ≡ false → IsHead Has (node_at nodes x).edge v → Contains states (record { node = x; vertex = v })
 
@@ -51,10 +53,11 @@ run_heads edge heads = filter (λ head. edge_index edge head == 1) heads
 abbrev pub with_node : ℕ → Head → State
 with_node x head = record { node = x; vertex = head.vertex }
 
--- those of a node, and of all nodes below a number
+-- the states of a node: none for the root and for a node that completes a restriction, else one at each head of its last edge
 abbrev pub states_with : List Node → List Back → List Head → ℕ → List State
 states_with nodes backs heads x = if x == 0 || (back_at backs x).forbids then [] else map (with_node x) (run_heads (node_at nodes x).edge heads)
 
+-- the states of all nodes below a number, node by node
 abbrev pub states_below : List Node → List Back → List Head → ℕ → List State
 states_below nodes backs heads zero = []
 states_below nodes backs heads (suc x) = states_below nodes backs heads x ++ states_with nodes backs heads x
@@ -63,8 +66,10 @@ states_below nodes backs heads (suc x) = states_below nodes backs heads x ++ sta
 abbrev pub state_at : ℕ → List State → ℕ → State
 state_at count states x = if nat_lt x count then record { node = 0; vertex = x } else slice_index_or states (x - count) (record { node = 0; vertex = 0 })
 
+-- the node of a state by its number
 abbrev pub node_of : ℕ → List State → ℕ → ℕ
 node_of count states x = (state_at count states x).node
 
+-- the vertex of a state by its number
 abbrev pub vertex_of : ℕ → List State → ℕ → ℕ
 vertex_of count states x = (state_at count states x).vertex

@@ -73,6 +73,7 @@ pub record IsBack (lists : List (List ℤ)) (nodes : List Node) (x : ℕ) (back 
   pub done : Completes lists (word lists nodes x) → back.forbids ≡ true
   pub only : back.forbids ≡ true → (Completes lists (word lists nodes x) → ⊥) → ⊥
 
+-- what is kept of a node, by its number
 abbrev pub back_at : List Back → ℕ → Back
 back_at backs x = slice_index_or backs x (record { shorter = 0; forbids = false })
 
@@ -90,10 +91,11 @@ pub record IsMarking (lists : List (List ℤ)) (nodes : List Node) (marks : List
   pub whole : (x : ℕ) (of : List ℤ) → x < length nodes → Contains lists of → word lists nodes x ≡ reverse of → slice_index_or marks x false ≡ true
   pub only : (x : ℕ) → x < length nodes → slice_index_or marks x false ≡ true → (of : List ℤ) × (Contains lists of × (word lists nodes x ≡ reverse of))
 
--- what is kept of the nodes whose fronts are shorter than that of a node, and of those whose fronts are no longer
+-- what is kept is that of each node whose front is shorter than that of the node
 abbrev pub AreBacksBefore : List (List ℤ) → List Node → ℕ → List Back → Type 0
 AreBacksBefore lists nodes x backs = (y : ℕ) → y < length nodes → (node_at nodes y).len < (node_at nodes x).len → IsBack lists nodes y (back_at backs y)
 
+-- the same of each node whose front is no longer than that of the node
 abbrev pub AreBacksUpTo : List (List ℤ) → List Node → ℕ → List Back → Type 0
 AreBacksUpTo lists nodes x backs = (y : ℕ) → y < length nodes → (node_at nodes y).len ≤ (node_at nodes x).len → IsBack lists nodes y (back_at backs y)
 

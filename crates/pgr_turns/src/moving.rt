@@ -33,7 +33,8 @@ pub(crate) fn moved_graph<G: Graph>(
     requires size { G.count graph.now + length states.now < 2 ^ 32 }
     ensures size { IfOk result (λ moved. ⟦<RowGraph as Graph>⟧.count moved ≡ G.count graph.now + length states.now) }
     ensures turned { IfOk result (λ moved. IsTurned (G.count graph.now) (G.ins graph.now) trie.now.lists.items (G.count graph.now + length states.now)
-        (vertex_of (G.count graph.now) states.now) (λ x. word trie.now.lists.items trie.now.nodes.items (node_of (G.count graph.now) states.now x)) (LinksOf ⟦<RowGraph as Graph>⟧ moved)) }
+        (vertex_of (G.count graph.now) states.now) (λ x. word trie.now.lists.items trie.now.nodes.items (node_of (G.count graph.now) states.now x))
+        (LinksOf ⟦<RowGraph as Graph>⟧ moved)) }
 {
     let size = graph.size() + states.len() as u32;
     let links = moved_links(alloc, graph, trie, backs, states, size)?;
@@ -136,7 +137,8 @@ fn moved_link<G: Graph>(
     requires link { Contains (G.outs graph.now (vertex_of (G.count graph.now) states.now x)) link }
     ensures moved { IfSome result (λ moved. MovesTo (G.count graph.now) states.now x link moved
         × IsMoved (G.count graph.now) (G.outs graph.now) trie.now.lists.items trie.now.nodes.items states.now moved) }
-    ensures none { IfNone result ((Completes trie.now.lists.items (link.edge ∷ word trie.now.lists.items trie.now.nodes.items (node_of (G.count graph.now) states.now x)) → ⊥) → ⊥) }
+    ensures none { IfNone result ((Completes trie.now.lists.items
+        (link.edge ∷ word trie.now.lists.items trie.now.nodes.items (node_of (G.count graph.now) states.now x)) → ⊥) → ⊥) }
 {
     let state = state_of_number(graph.size(), states, x);
     let next = after(trie, backs, state.node, link.edge);

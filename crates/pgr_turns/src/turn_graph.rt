@@ -16,8 +16,9 @@ use std::alloc::Global;
 /// A graph whose vertices are states: a vertex of the graph beneath, with the longest front of a restriction that
 /// the last edges are.
 ///
-/// A front that isn't empty stands only where a link with its last edge leads. The links are those of the graph
-/// beneath that complete no restriction, each to the state of the longest front then.
+/// Each vertex has a state with no front. A front that isn't empty completes no restriction, and stands only where a
+/// link with its last edge leads. The links are those of the graph beneath that complete no restriction, each to the
+/// state of the longest front then.
 #[derive(Drop)]
 pub struct TurnGraph<'a, G: Graph, M: Graph> {
     graph: &'a G,
@@ -55,7 +56,8 @@ impl<'a, G: Graph> TurnGraph<'a, G, RowGraph> {
         requires { most_states (G.count graph.now) (G.outs graph.now) (G.ins graph.now) turns.now < 2 ^ 32 }
         ensures graph { IfOk result (λ turned. graph_of turned ≡ graph.now) }
         ensures restrictions { IfOk result (λ turned. restrictions_of turned ≡ turns.now) }
-        ensures few { IfOk result (λ turned. ⟦<TurnGraph<'a, G, RowGraph> as Graph>⟧.count turned ≤ most_states (G.count graph.now) (G.outs graph.now) (G.ins graph.now) turns.now) }
+        ensures few { IfOk result (λ turned. ⟦<TurnGraph<'a, G, RowGraph> as Graph>⟧.count turned
+            ≤ most_states (G.count graph.now) (G.outs graph.now) (G.ins graph.now) turns.now) }
         ensures states { IfOk result (λ turned. IsTurned (G.count graph.now) (G.ins graph.now) turns.now (⟦<TurnGraph<'a, G, RowGraph> as Graph>⟧.count turned)
             (vertex_at G.Graph turned) (front_at G.Graph turned) (LinksOf ⟦<TurnGraph<'a, G, RowGraph> as Graph>⟧ turned)) }
         ensures fits { IfOk result (λ turned. elements turns.now ≡ 0 → Fits (LinksOf G.Graph graph.now) → Fits (LinksOf ⟦<TurnGraph<'a, G, RowGraph> as Graph>⟧ turned)) }

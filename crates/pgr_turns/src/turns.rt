@@ -97,6 +97,7 @@ fn append_list(alloc: Global, ids: &[i64], lists: &mut Vec<Listed<i64>>) -> Resu
 #[cfg(test)]
 mod tests {
     use super::*;
+    use pgr_table::read_restrictions;
     use std::test::Fail;
 
     #[test]
@@ -108,6 +109,24 @@ mod tests {
         lists.push(Listed::from_vec(long))?;
         lists.push(Listed::from_vec(short))?;
         let turns = Turns::of_lists(alloc, lists)?;
+        // No id, 7, 7 7, 7 7 8 and 7 9.
+        assert_eq!(rt; turns.trie.nodes.len(), 5);
+        assert_eq!(rt; turns.backs.len(), 5);
+        Ok(())
+    }
+
+    // A row without ids is left out, and a list that stands twice is there twice.
+    #[test]
+    fn the_lists_of_a_table_are_kept_in_order(rt: HostRuntime) -> Result<(), Fail> {
+        let alloc = rt.alloc();
+        let bytes = b"id,path\n1,\"{7,7,8}\"\n2,{}\n3,\"{7,9}\"\n4,\n5,\"{7,9}\"\n";
+        let table = read_restrictions(alloc, bytes)?;
+        let turns = Turns::make(alloc, &table)?;
+        let kept: [&[i64]; 3] = [&[7, 7, 8], &[7, 9], &[7, 9]];
+        assert_eq!(rt; turns.trie.lists.len(), kept.len());
+        for (list, ids) in turns.trie.lists.iter().zip(kept) {
+            assert_eq!(rt; list.as_slice(), ids);
+        }
         // No id, 7, 7 7, 7 7 8 and 7 9.
         assert_eq!(rt; turns.trie.nodes.len(), 5);
         assert_eq!(rt; turns.backs.len(), 5);

@@ -49,4 +49,5 @@ returns-in_ok-route_beneath-in-Some-clause-least g c =
     let t : IsTurned count ins rs size vertex front Has = subst (λ n. IsTurned count ins rs n vertex front Has) (sym c.args.turned.now.size) c.args.turned.now.turned in
     let least : IsLeastFrom size Has c.args.room.now c.args.from c.in-Some.route = rw c.in-Some.is at c.in_ok-least_route.ensures.least in
     let P : List (LinkOf ℕ) → Type 0 = IsLeast nat_cmp (IsAllowedWalk (IsLinkOf count ins) rs c.args.from c.args.to) in
-    subst P (sym c.in_ok-route_beneath-in-Some.ensures) (allowed_least count ins rs size vertex front Has t c.args.room.now c.args.from c.args.to c.requires.from c.requires.holds c.in-Some.route least)
+    subst P (sym c.in_ok-route_beneath-in-Some.ensures)
+    (allowed_least count ins rs size vertex front Has t c.args.room.now c.args.from c.args.to c.requires.from c.requires.holds c.in-Some.route least)

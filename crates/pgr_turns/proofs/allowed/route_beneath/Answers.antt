@@ -14,7 +14,8 @@ of-requires-clause-chain g c =
     let vertex = vertex_at g.G.Graph c.args.turned.now in
     let links = c.links-link-items.result.now in
     let all : c.loop-link.links.items ≡ map (beneath vertex) c.args.route.now =
-    c.loop-link.invariant ∙ ap (λ (ls : List (LinkOf ℕ)). map (beneath vertex) ls) (take_all c.loop-link.link-index links c.loop-link-test.false ∙ c.links-link-items.ensures.links) in
+    c.loop-link.invariant ∙ ap (λ (ls : List (LinkOf ℕ)). map (beneath vertex) ls) (take_all c.loop-link.link-index links c.loop-link-test.false
+    ∙ c.links-link-items.ensures.links) in
     subst (λ (ls : List (LinkOf ℕ)). IsChain ls) (sym all) (chain_beneath vertex c.args.route.now c.links-link-items.ensures.chain)
 
 pub of-requires-clause-cost : goal.of-requires-clause-cost
@@ -22,5 +23,6 @@ of-requires-clause-cost g c =
     let vertex = vertex_at g.G.Graph c.args.turned.now in
     let links = c.links-link-items.result.now in
     let all : c.loop-link.links.items ≡ map (beneath vertex) c.args.route.now =
-    c.loop-link.invariant ∙ ap (λ (ls : List (LinkOf ℕ)). map (beneath vertex) ls) (take_all c.loop-link.link-index links c.loop-link-test.false ∙ c.links-link-items.ensures.links) in
+    c.loop-link.invariant ∙ ap (λ (ls : List (LinkOf ℕ)). map (beneath vertex) ls) (take_all c.loop-link.link-index links c.loop-link-test.false
+    ∙ c.links-link-items.ensures.links) in
     subst (λ (ls : List (LinkOf ℕ)). cost_of ls ≤ greatest) (sym all) (subst (λ n. n ≤ greatest) (sym (cost_kept vertex c.args.route.now)) c.links-link-items.ensures.cost)

@@ -40,7 +40,8 @@ pub loop-next-preserved : goal.loop-next-preserved
 loop-next-preserved c =
     let some : c.loop-next.here ≢ 0 = λ z. absurd (c.if-here-eq0.false z) in
     let back = back_at c.args.backs.now c.loop-next.here in
-    let more = after_more c.args.trie.now.lists.items c.args.trie.now.nodes.items (λ a e. get key_cmp c.args.trie.now.children (a, e)) c.requires.trie c.requires.complete _ c.args.at
+    let more = after_more c.args.trie.now.lists.items c.args.trie.now.nodes.items (λ a e. get key_cmp c.args.trie.now.children (a, e)) c.requires.trie c.requires.complete _
+    c.args.at
     c.loop-next.here back c.loop-next.invariant.below some c.loop-next.invariant.follows (sym c.child.ensures ∙ c.in_default.is)
     (c.loop-next.invariant.backs c.loop-next.here c.loop-next.invariant.below (omega arith)) in
     record {

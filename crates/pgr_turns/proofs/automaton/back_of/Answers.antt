@@ -41,7 +41,8 @@ returns-then-marks-x c =
     c.shorter_of-shorter.ensures.shorter in
     let less = shorter_less lists nodes child c.requires.trie c.args.x c.shorter_of-shorter.result c.requires.x c.shorter_of-shorter.ensures.below is in
     let back = back_at c.args.backs.now c.shorter_of-shorter.result in
-    let whole = more_back lists nodes child c.args.marks.now c.args.x c.shorter_of-shorter.result back c.requires.trie c.requires.marks c.requires.x some c.shorter_of-shorter.ensures.below is
+    let whole = more_back lists nodes child c.args.marks.now c.args.x c.shorter_of-shorter.result back c.requires.trie c.requires.marks c.requires.x some
+    c.shorter_of-shorter.ensures.below is
     (c.requires.backs c.shorter_of-shorter.result c.shorter_of-shorter.ensures.below less) in
     let marked : (get_or c.args.marks.now c.args.x false || back.forbids) ≡ get_or c.args.marks.now c.args.x false =
     ap (λ m. m || back.forbids) c.if-marks-x.true ∙ sym c.if-marks-x.true in
@@ -63,7 +64,8 @@ returns-else-marks-x c =
     c.shorter_of-shorter.ensures.shorter in
     let less = shorter_less lists nodes child c.requires.trie c.args.x c.shorter_of-shorter.result c.requires.x c.shorter_of-shorter.ensures.below is in
     let back = back_at c.args.backs.now c.shorter_of-shorter.result in
-    let whole = more_back lists nodes child c.args.marks.now c.args.x c.shorter_of-shorter.result back c.requires.trie c.requires.marks c.requires.x some c.shorter_of-shorter.ensures.below is
+    let whole = more_back lists nodes child c.args.marks.now c.args.x c.shorter_of-shorter.result back c.requires.trie c.requires.marks c.requires.x some
+    c.shorter_of-shorter.ensures.below is
     (c.requires.backs c.shorter_of-shorter.result c.shorter_of-shorter.ensures.below less) in
     let marked : (get_or c.args.marks.now c.args.x false || back.forbids) ≡ back.forbids = ap (λ m. m || back.forbids) c.if-marks-x.false in
     subst (λ b. IsBack lists nodes c.args.x (record { shorter = c.shorter_of-shorter.result; forbids = b })) marked whole

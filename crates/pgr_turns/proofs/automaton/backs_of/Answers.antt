@@ -31,7 +31,8 @@ loop-entry-preserved c =
     let below : x < length backs = omega (arith, (ordered.nodes_are j (0, 0) inside).0, c.loop-entry.invariant.size_is) in
     record {
       size_is = length-set backs x c.back_of-back.result ∙ c.loop-entry.invariant.size_is;
-      backs_are = backs_more lists nodes order ordered backs j x c.back_of-back.result (λ d. ap (λ (p : ℕ × ℕ). p.1) (get_or_default order j d (0, 0) inside)) below c.back_of-back.ensures
+      backs_are = backs_more lists nodes order ordered backs j x c.back_of-back.result (λ d. ap (λ (p : ℕ × ℕ). p.1) (get_or_default order j d (0, 0) inside)) below
+          c.back_of-back.ensures
           c.loop-entry.invariant.backs_are;
     }
 

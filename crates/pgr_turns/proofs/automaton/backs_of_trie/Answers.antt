@@ -15,5 +15,6 @@ pub backs_of-requires-clause-marks : goal.backs_of-requires-clause-marks
 backs_of-requires-clause-marks c =
     let size : length c.in_ok-marks.marks.items ≡ length c.args.trie.now.nodes.items = omega (arith, c.in_ok-marks.ensures.size, c.len.ensures, c.args.trie.now.nodes.ok.0) in
     subst (λ (ms : List Bool). IsMarking c.args.trie.now.lists.items c.args.trie.now.nodes.items ms) (sym c.as_slice.ensures.value)
-    (marking_from c.args.trie.now.lists.items c.args.trie.now.nodes.items (λ a e. get key_cmp c.args.trie.now.children (a, e)) c.args.lasts.now c.in_ok-marks.marks.items c.requires.trie
+    (marking_from c.args.trie.now.lists.items c.args.trie.now.nodes.items (λ a e. get key_cmp c.args.trie.now.children (a, e)) c.args.lasts.now c.in_ok-marks.marks.items
+    c.requires.trie
     size c.requires.lasts c.in_ok-marks.ensures.marks)

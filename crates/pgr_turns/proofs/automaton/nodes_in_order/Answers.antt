@@ -28,7 +28,8 @@ returns c =
     let order = c.loop-x.order.items in
     let sorted = c.sort_unstable_by_key.new.self.items in
     record {
-      nodes_are = All-permutation (λ entry. (entry.1 < length nodes) × (entry.0 ≡ (node_at nodes entry.1).len)) order sorted c.sort_unstable_by_key.ensures.permutation c.loop-x.invariant.nodes_are;
+      nodes_are = All-permutation (λ entry. (entry.1 < length nodes) × (entry.0 ≡ (node_at nodes entry.1).len)) order sorted c.sort_unstable_by_key.ensures.permutation
+          c.loop-x.invariant.nodes_are;
       each = λ y below. Contains-permutation order sorted ((node_at nodes y).len, y) c.sort_unstable_by_key.ensures.permutation (c.loop-x.invariant.each y (omega arith));
       in_order = IsNonDecreasingBy-from_sort_by_key (λ (entry : ℕ × ℕ). entry.0) sorted c.sort_unstable_by_key.ensures.sorted (λ a r f h. search rules);
     }

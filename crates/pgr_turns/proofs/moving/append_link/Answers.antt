@@ -9,7 +9,8 @@ use Rattle.pgr_turns.proofs.moving.append_link.Goals as goal
 
 pub returns-in-Some-clause-moved : goal.returns-in-Some-clause-moved
 returns-in-Some-clause-moved g c =
-    let P : LinkOf ℕ → Type 0 = IsMoved (g.G.Graph.count c.args.graph.now) (g.G.Graph.outs c.args.graph.now) c.args.trie.now.lists.items c.args.trie.now.nodes.items c.args.states.now in
+    let P : LinkOf ℕ → Type 0 = IsMoved (g.G.Graph.count c.args.graph.now) (g.G.Graph.outs c.args.graph.now) c.args.trie.now.lists.items c.args.trie.now.nodes.items
+    c.args.states.now in
     let old = c.args.links.now.items in
     let new = c.push.new.list.items in
     IfOk-weaker c.push.result (λ _. new ≡ old ++ c.in-Some.moved ∷ []) (λ _. All P new)
@@ -27,4 +28,10 @@ returns-in-Some-clause-there g c =
     let old = c.args.links.now.items in
     let new = c.push.new.list.items in
     IfOk-weaker c.push.result (λ _. new ≡ old ++ c.in-Some.moved ∷ []) _
-    (λ u pushed free. (c.in-Some.moved, (subst (λ (ls : List (LinkOf ℕ)). Contains ls c.in-Some.moved) (sym pushed) (Contains-push old c.in-Some.moved), c.in-Some.ensures.moved.0))) c.push.ensures
+    (λ u pushed free. (
+      c.in-Some.moved,
+      (
+        subst (λ (ls : List (LinkOf ℕ)). Contains ls c.in-Some.moved) (sym pushed) (Contains-push old c.in-Some.moved),
+        c.in-Some.ensures.moved.0,
+      ),
+    )) c.push.ensures

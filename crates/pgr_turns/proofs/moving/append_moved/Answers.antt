@@ -16,7 +16,8 @@ links_out-requires g c =
     let states = c.args.states.now in
     let state_is : c.state_of_number-state.result ≡ state_at count states c.args.x = c.state_of_number-state.ensures ∙ ap (λ n. state_at n states c.args.x) c.size.ensures in
     subst (λ (s : State). s.vertex < count) (sym state_is)
-    (state_range count (g.G.Graph.ins c.args.graph.now) c.args.trie.now.nodes.items c.args.backs.now states c.requires.states c.requires.automaton.trie.some c.args.x c.requires.x).1
+    (state_range count (g.G.Graph.ins c.args.graph.now) c.args.trie.now.nodes.items c.args.backs.now states c.requires.states c.requires.automaton.trie.some c.args.x
+    c.requires.x).1
 
 pub append_link-requires-clause-link : goal.append_link-requires-clause-link
 append_link-requires-clause-link g c =
@@ -42,7 +43,8 @@ loop-link-preserved g c =
     let d : LinkOf ℕ = record { from = 0; edge = pos 0; cost = 0; to = 0 } in
     let P : List (LinkOf ℕ) → Type 0 = AreMovedSoFar count outs lists nodes states c.args.x c.args.links.now.items c.append_link.new.links.items in
     subst P (sym (take_more items i d (omega arith)))
-    (moved_more count outs lists nodes states c.args.x c.args.links.now.items c.loop-link.links.items c.append_link.new.links.items (take i items) (get_or items i d) c.loop-link.invariant
+    (moved_more count outs lists nodes states c.args.x c.args.links.now.items c.loop-link.links.items c.append_link.new.links.items (take i items)
+    (get_or items i d) c.loop-link.invariant
     c.in_ok-append_link.ensures.moved c.in_ok-append_link.ensures.kept c.in_ok-append_link.ensures.there)
 
 pub returns-clause-all : goal.returns-clause-all

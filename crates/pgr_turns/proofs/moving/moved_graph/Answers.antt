@@ -14,6 +14,8 @@ returns-clause-turned g c =
     let ins = g.G.Graph.ins c.args.graph.now in
     let trie = c.args.trie.now in
     let states = c.args.states.now in
-    turned_made count outs ins (g.met.G.Graph.lawful c.args.graph.now) trie.lists.items trie.nodes.items (λ (a : ℕ) (e : ℤ). get key_cmp trie.children (a, e)) c.args.backs.now c.requires.automaton
+    turned_made count outs ins (g.met.G.Graph.lawful c.args.graph.now) trie.lists.items trie.nodes.items (λ (a : ℕ) (e : ℤ). get key_cmp trie.children (a, e)) c.args.backs.now
+    c.requires.automaton
     states c.requires.states c.in_ok-links.links.items _ c.in_ok-moved.ensures.links c.in_ok-links.ensures.moved
-    (all_below count outs trie.lists.items trie.nodes.items states c.in_ok-links.links.items c.in_ok-links.ensures.all (first_of (search rules, omega (arith, c.size.ensures), grind (arith, common_steps))))
+    (all_below count outs trie.lists.items trie.nodes.items states c.in_ok-links.links.items c.in_ok-links.ensures.all
+    (first_of (search rules, omega (arith, c.size.ensures), grind (arith, common_steps))))

@@ -29,7 +29,8 @@ returns-then-backs-next-clause-none g c =
     subst (λ f. IsLongest lists (f ∷ word lists nodes (node_of count states x)) (word lists nodes next)) e
     (subst (λ (s : State). IsLongest lists (to_z w64 (of_z w64 c.args.link.edge) ∷ word lists nodes s.node) (word lists nodes next)) state_is c.after-next.ensures.longest) in
     let range = state_range count ins nodes c.args.backs.now states c.requires.states c.requires.automaton.trie.some x c.requires.x in
-    moves_none count outs ins (g.met.G.Graph.lawful c.args.graph.now) lists nodes child c.args.backs.now c.requires.automaton states c.requires.states x next c.args.link range.1 c.requires.link c.after-next.ensures.below longest c.if-backs-next.true
+    moves_none count outs ins (g.met.G.Graph.lawful c.args.graph.now) lists nodes child c.args.backs.now c.requires.automaton states c.requires.states x next c.args.link range.1
+    c.requires.link c.after-next.ensures.below longest c.if-backs-next.true
 
 pub number_of-requires-clause-there : goal.number_of-requires-clause-there
 number_of-requires-clause-there g c =
@@ -49,7 +50,8 @@ number_of-requires-clause-there g c =
     (subst (λ (s : State). IsLongest lists (to_z w64 (of_z w64 c.args.link.edge) ∷ word lists nodes s.node) (word lists nodes next)) state_is c.after-next.ensures.longest) in
     let range = state_range count ins nodes c.args.backs.now states c.requires.states c.requires.automaton.trie.some x c.requires.x in
     subst (λ n. ((next ≡ 0) × (c.args.link.to < n)) ⊎ ((next ≢ 0) × Contains states (record { node = next; vertex = c.args.link.to }))) (sym c.size-2.ensures)
-    (state_there count outs ins (g.met.G.Graph.lawful c.args.graph.now) lists nodes child c.args.backs.now c.requires.automaton states c.requires.states x next c.args.link range.1 c.requires.link c.after-next.ensures.below longest c.if-backs-next.false (cases_eq next 0))
+    (state_there count outs ins (g.met.G.Graph.lawful c.args.graph.now) lists nodes child c.args.backs.now c.requires.automaton states c.requires.states x next c.args.link
+    range.1 c.requires.link c.after-next.ensures.below longest c.if-backs-next.false (cases_eq next 0))
 
 pub returns-clause-moved : goal.returns-clause-moved
 returns-clause-moved g c =
@@ -70,6 +72,9 @@ returns-clause-moved g c =
     let range = state_range count ins nodes c.args.backs.now states c.requires.states c.requires.automaton.trie.some x c.requires.x in
     let y = c.number_of.result in
     let y_is : state_at count states y ≡ record { node = next; vertex = c.args.link.to } = ap (λ n. state_at n states y) (sym c.size-2.ensures) ∙ c.number_of.ensures.state in
-    let made = moves_some count outs ins (g.met.G.Graph.lawful c.args.graph.now) lists nodes child c.args.backs.now c.requires.automaton states c.requires.states x next c.args.link range.1 c.requires.link c.after-next.ensures.below longest y c.if-backs-next.false c.requires.x (omega (arith, c.number_of.ensures.below, c.size-2.ensures)) y_is in
-    subst (λ f. MovesTo count states x c.args.link (record { from = x; edge = f; cost = c.args.link.cost; to = y }) × IsMoved count outs lists nodes states (record { from = x; edge = f; cost = c.args.link.cost; to = y }))
+    let made = moves_some count outs ins (g.met.G.Graph.lawful c.args.graph.now) lists nodes child c.args.backs.now c.requires.automaton states c.requires.states x next
+    c.args.link range.1 c.requires.link c.after-next.ensures.below longest y c.if-backs-next.false c.requires.x (omega (arith, c.number_of.ensures.below, c.size-2.ensures))
+    y_is in
+    subst (λ f. MovesTo count states x c.args.link (record { from = x; edge = f; cost = c.args.link.cost; to = y })
+    × IsMoved count outs lists nodes states (record { from = x; edge = f; cost = c.args.link.cost; to = y }))
     (sym e) made

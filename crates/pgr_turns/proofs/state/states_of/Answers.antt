@@ -25,5 +25,6 @@ returns-clause-few g c =
     let moved = rw given at c.sort_unstable.ensures.permutation in
     let are : AreStates (IsLinkOf count (g.G.Graph.ins c.args.g.now)) nodes c.args.backs.now (length nodes) c.dedup.new.self.items = rw (dedup_is _ _ _ c.dedup.ensures.filtered)
     (states_sorted _ nodes c.args.backs.now c.args.heads.now c.requires.heads (length nodes) _ moved c.sort_unstable.ensures.sorted) in
-    states_few count (g.G.Graph.outs c.args.g.now) (g.G.Graph.ins c.args.g.now) c.args.trie.now.lists.items nodes (λ (a : ℕ) (e : ℤ). get key_cmp c.args.trie.now.children (a, e)) c.args.backs.now
+    states_few count (g.G.Graph.outs c.args.g.now) (g.G.Graph.ins c.args.g.now) c.args.trie.now.lists.items nodes (λ (a : ℕ) (e : ℤ). get key_cmp c.args.trie.now.children (a, e))
+    c.args.backs.now
     c.requires.automaton c.dedup.new.self.items are

@@ -10,4 +10,5 @@ returns-clause-trie c =
 
 pub returns-clause-fronts : goal.returns-clause-fronts
 returns-clause-fronts c =
-    subst (λ (ls : List (List ℤ)). (i : ℕ) → i < length ls → HasFronts ls c.insert_all.new.nodes.items i (length (list_at ls i))) c.as_slice.ensures.value c.in_ok-lasts.ensures.fronts
+    subst (λ (ls : List (List ℤ)). (i : ℕ) → i < length ls → HasFronts ls c.insert_all.new.nodes.items i (length (list_at ls i))) c.as_slice.ensures.value
+    c.in_ok-lasts.ensures.fronts

@@ -19,7 +19,8 @@ invariant_of-result g c =
     record {
       seen = c.parts.ensures.lists;
       size = c.in_ok-moved.ensures.size ∙ ap (λ (ss : List State). count + length ss) c.as_slice-all.ensures.value;
-      turned = turned_as count (count + length states) ins lists c.args.turns.now lists nodes c.as_slice-all.result.now states c.parts.ensures.lists c.as_slice-all.ensures.value refl c.in_ok-moved.ensures.turned;
+      turned = turned_as count (count + length states) ins lists c.args.turns.now lists nodes c.as_slice-all.result.now states c.parts.ensures.lists c.as_slice-all.ensures.value
+          refl c.in_ok-moved.ensures.turned;
     }
 
 pub returns-clause-states : goal.returns-clause-states
@@ -41,8 +42,10 @@ returns-clause-fits g c = λ none fits.
     let states = c.in_ok-states.states.items in
     let child = λ (a : ℕ) (e : ℤ). get key_cmp c.parts.result.0.now.children (a, e) in
     let backs = c.parts.result.1.now in
-    let t = turned_as count (count + length states) ins lists lists lists nodes c.as_slice-all.result.now states refl c.as_slice-all.ensures.value refl c.in_ok-moved.ensures.turned in
-    plain_fits count ins lists nodes child backs c.parts.ensures.automaton states c.in_ok-states.ensures.states _ t (ap (λ (ls : List (List ℤ)). elements ls) c.parts.ensures.lists ∙ none) fits
+    let t = turned_as count (count + length states) ins lists lists lists nodes c.as_slice-all.result.now states refl c.as_slice-all.ensures.value refl
+    c.in_ok-moved.ensures.turned in
+    plain_fits count ins lists nodes child backs c.parts.ensures.automaton states c.in_ok-states.ensures.states _ t
+    (ap (λ (ls : List (List ℤ)). elements ls) c.parts.ensures.lists ∙ none) fits
 
 pub returns-clause-costs : goal.returns-clause-costs
 returns-clause-costs g c = λ links all bound.
@@ -53,6 +56,7 @@ returns-clause-costs g c = λ links all bound.
     let states = c.in_ok-states.states.items in
     let child = λ (a : ℕ) (e : ℤ). get key_cmp c.parts.result.0.now.children (a, e) in
     let backs = c.parts.result.1.now in
-    let t = turned_as count (count + length states) ins lists lists lists nodes c.as_slice-all.result.now states refl c.as_slice-all.ensures.value refl c.in_ok-moved.ensures.turned in
+    let t = turned_as count (count + length states) ins lists lists lists nodes c.as_slice-all.result.now states refl c.as_slice-all.ensures.value refl
+    c.in_ok-moved.ensures.turned in
     costs_fit count ins lists nodes child backs c.parts.ensures.automaton states c.in_ok-states.ensures.states _ t links all
     (subst (λ (ls : List (List ℤ)). cost_of links * (1 + elements ls) ≤ greatest) (sym c.parts.ensures.lists) bound)

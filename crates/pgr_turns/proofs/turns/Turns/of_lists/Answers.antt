@@ -18,7 +18,8 @@ invariant_of-result c =
       trie = c.in_ok-made.ensures.trie;
       few = subst (λ (ls : List (List ℤ)). length made.nodes.items ≤ 1 + elements ls) (sym c.in_ok-made.ensures.lists) c.in_ok-made.ensures.few;
       complete = complete_from made.lists.items made.nodes.items (λ a e. get key_cmp made.children (a, e)) c.in_ok-made.ensures.trie
-          (subst (λ (ls : List (List ℤ)). (i : ℕ) → i < length ls → HasFronts ls made.nodes.items i (length (list_at ls i))) (sym c.in_ok-made.ensures.lists) c.in_ok-made.ensures.fronts);
+          (subst (λ (ls : List (List ℤ)). (i : ℕ) → i < length ls → HasFronts ls made.nodes.items i (length (list_at ls i)))
+          (sym c.in_ok-made.ensures.lists) c.in_ok-made.ensures.fronts);
       size_is = c.in_ok-backs.ensures.size;
       backs_are = c.in_ok-backs.ensures.backs;
     }
