@@ -8,6 +8,8 @@ _pgr_options() {
     pgr_dijkstraCostMatrix) options='edges vids directed' ;;
     pgr_drivingDistance) options='edges start distance directed equicost' ;;
     pgr_withPoints) options='edges points start end combinations directed driving_side details' ;;
+    pgr_trsp) options='edges restrictions start end combinations directed' ;;
+    pgr_aStar) options='edges start end combinations directed heuristic factor' ;;
     pgr_KSP) options='edges start end K combinations directed' ;;
     pgr_contraction) options='edges order max_cycles forbidden directed' ;;
     pgr_maxFlow|pgr_edmondsKarp) options='edges start end' ;;
@@ -18,7 +20,7 @@ _pgr_options() {
   echo "$options"
 }
 
-_pgr_functions='pgr_dijkstra pgr_dijkstraCost pgr_dijkstraCostMatrix pgr_drivingDistance pgr_withPoints pgr_KSP
+_pgr_functions='pgr_dijkstra pgr_dijkstraCost pgr_dijkstraCostMatrix pgr_drivingDistance pgr_withPoints pgr_trsp pgr_KSP pgr_aStar
   pgr_contraction pgr_connectedComponents pgr_strongComponents pgr_biconnectedComponents pgr_articulationPoints pgr_bridges
   pgr_maxFlow pgr_edmondsKarp minCut'
 
@@ -38,6 +40,7 @@ _pgr() {
     case ${name#--} in
       edges|combinations|points|restrictions) compopt -o filenames 2>/dev/null; COMPREPLY=($(compgen -f -- "$value")) ;;
       directed|equicost|details) COMPREPLY=($(compgen -W 'true false' -- "$value")) ;;
+      heuristic) COMPREPLY=($(compgen -W '0 1 2 3 4 5' -- "$value")) ;;
       driving_side) COMPREPLY=($(compgen -W 'b r l' -- "$value")) ;;
     esac
     return

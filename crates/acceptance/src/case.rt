@@ -15,6 +15,8 @@ pub(crate) struct Case<'a> {
     pub pairs: &'a [u8],
     /// The content of `points.csv`.
     pub points: &'a [u8],
+    /// The content of `r.csv`.
+    pub restrictions: &'a [u8],
     /// The reads of the store that fail.
     pub failing_reads: &'a [u64],
     /// The writes to the output that fail.
@@ -38,6 +40,7 @@ impl<'a> Case<'a> {
             edges: Some(edges),
             pairs: b"",
             points: b"",
+            restrictions: b"",
             failing_reads: &[],
             failing_writes: &[],
             failing_messages: &[],
@@ -109,6 +112,8 @@ impl<'a> Case<'a> {
         files.push((name, Vec::from_slice(alloc, self.pairs)?))?;
         let name = String::from_str(alloc, "points.csv")?;
         files.push((name, Vec::from_slice(alloc, self.points)?))?;
+        let name = String::from_str(alloc, "r.csv")?;
+        files.push((name, Vec::from_slice(alloc, self.restrictions)?))?;
         let fails = Vec::from_slice(alloc, self.failing_reads)?;
         Ok(MemoryStore::new(files, 16, fails))
     }

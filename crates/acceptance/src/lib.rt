@@ -14,6 +14,8 @@ mod costs;
 #[cfg(test)]
 mod driving;
 #[cfg(test)]
+mod estimates;
+#[cfg(test)]
 mod failures;
 #[cfg(test)]
 mod flows;
@@ -23,6 +25,8 @@ mod paths;
 mod points;
 #[cfg(test)]
 mod refusals;
+#[cfg(test)]
+mod restrictions;
 #[cfg(test)]
 mod several;
 #[cfg(test)]

@@ -35,6 +35,11 @@ pub const H: &[u8] = b"id,source,target,capacity\n\
     4,2,4,1\n\
     5,3,4,1\n";
 
+/// A way of two links, with the places of its vertices.
+pub const PLACED: &[u8] = b"id,source,target,cost,reverse_cost,x1,y1,x2,y2\n\
+    1,1,2,3,3,0,0,3,0\n\
+    2,2,3,4,-1,3,0,3,4\n";
+
 /// Table A as another tool writes it: columns in another order and one more, a quoted comma, CR LF, costs with a full
 /// stop, and an empty field where there is no reverse cost.
 pub const A_EXPORTED: &[u8] = b"name,target,source,id,reverse_cost,cost\r\n\

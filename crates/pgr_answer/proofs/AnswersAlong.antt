@@ -5,13 +5,13 @@ use Rattle.std.proofs.lemmas.List.{length-map, get_or-map}
 use Rattle.std.proofs.lemmas.List.Elements.{All-map}
 use Rattle.pgr_outside.specs.Lists.{IsStrictlyRising}
 use Rattle.pgr_walks.specs.declared.link.LinkOf.{LinkOf}
-use Rattle.pgr_walks.specs.Walk.{IsWalk, IsVertex}
+use Rattle.pgr_walks.specs.Walk.{IsVertex}
+use Rattle.pgr_route.proofs.TightWalks.{walk_wider}
 use Rattle.pgr_answer.specs.Pairs.{IsAnswerable}
-use Rattle.pgr_answer.specs.Answers.{Answer, answer_cmp, AreAnswers}
+use Rattle.pgr_answer.specs.Answers.{Answer, answer_cmp, AreAnswers, AreAnswersBy, walks_over}
 use Rattle.pgr_answer.specs.Costs.{IsLeastCost}
 use Rattle.pgr_answer.specs.Paths.{IsLeastBetween}
 use Rattle.pgr_answer.specs.Found.{seen}
-use Rattle.pgr_answer.proofs.NetworkLemmas.{IsWalk-along}
 
 -- what holds of each element of a list seen through a function holds of each element so seen
 pub All-from_map : {X Y : Type 0} (P : Y → Type 0) (f : X → Y) (xs : List X) → All P (map f xs) → All (λ x. P (f x)) xs
@@ -32,9 +32,10 @@ rise-seen f (first ∷ rest) rise i j d before within =
     ∙ rise i j first before inside
 
 -- what is shown seen through a function: the answers show what it shows
-pub answers-seen : {A B : Type 0} (f : A → B) (Has : LinkOf ℤ → Type 0) (Asked : ℤ → ℤ → Type 0) (Shows : ℤ → ℤ → A → Type 0) (Shown : ℤ → ℤ → B → Type 0)
+pub answers-seen : {A B : Type 0} {Leads : ℤ → ℤ → List (LinkOf ℤ) → Type 0} (f : A → B)
+    (Has : LinkOf ℤ → Type 0) (Asked : ℤ → ℤ → Type 0) (Shows : ℤ → ℤ → A → Type 0) (Shown : ℤ → ℤ → B → Type 0)
     → ((s t : ℤ) (shown : A) → Shows s t shown → Shown s t (f shown))
-    → (answers : List (Answer A)) → AreAnswers Has Asked Shows answers → AreAnswers Has Asked Shown (map (seen f) answers)
+    → (answers : List (Answer A)) → AreAnswersBy Has Leads Asked Shows answers → AreAnswersBy Has Leads Asked Shown (map (seen f) answers)
 answers-seen f Has Asked Shows Shown through answers are = record {
   asked = All-map (λ answer. Asked answer.start answer.end) (seen f) answers are.asked;
   answerable = All-map (λ answer. IsAnswerable Has answer.start answer.end) (seen f) answers are.answerable;
@@ -80,28 +81,34 @@ module _ (P Q : LinkOf ℤ → Type 0) (same : (link : LinkOf ℤ) → P link �
   -- the least walk over a set of links is least over a set with the same links
   pub IsLeastBetween-over : (s t : ℤ) (walk : List (LinkOf ℤ)) → IsLeastBetween P s t walk → IsLeastBetween Q s t walk
   IsLeastBetween-over s t walk least = record {
-    belongs = IsWalk-along P Q into s walk t least.belongs;
-    precedes = λ other is_walk. least.precedes other (IsWalk-along Q P back s other t is_walk);
+    belongs = walk_wider P Q into s walk t least.belongs;
+    precedes = λ other is_walk. least.precedes other (walk_wider Q P back s other t is_walk);
   }
 
   -- and so is the least cost
   pub IsLeastCost-over : (s t : ℤ) (cost : ℕ) → IsLeastCost P s t cost → IsLeastCost Q s t cost
   IsLeastCost-over s t cost least = record {
     walk = least.walk;
-    is_walk = IsWalk-along P Q into s least.walk t least.is_walk;
+    is_walk = walk_wider P Q into s least.walk t least.is_walk;
     costs = least.costs;
-    least = λ other is_walk. least.least other (IsWalk-along Q P back s other t is_walk);
+    least = λ other is_walk. least.least other (walk_wider Q P back s other t is_walk);
   }
 
   -- another set with the same links: the same answers, where what is shown is shown over it too
-  pub answers-over : {A : Type 0} (Asked : ℤ → ℤ → Type 0) (Shows Shown : ℤ → ℤ → A → Type 0)
+  pub answers-over_by : {A : Type 0} (Leads Goes : ℤ → ℤ → List (LinkOf ℤ) → Type 0) → ((s t : ℤ) (walk : List (LinkOf ℤ)) → Goes s t walk → Leads s t walk)
+      → (Asked : ℤ → ℤ → Type 0) (Shows Shown : ℤ → ℤ → A → Type 0)
       → ((s t : ℤ) (shown : A) → Shows s t shown → Shown s t shown)
-      → (answers : List (Answer A)) → AreAnswers P Asked Shows answers → AreAnswers Q Asked Shown answers
-  answers-over Asked Shows Shown along answers are = record {
+      → (answers : List (Answer A)) → AreAnswersBy P Leads Asked Shows answers → AreAnswersBy Q Goes Asked Shown answers
+  answers-over_by Leads Goes too Asked Shows Shown along answers are = record {
     asked = are.asked;
     answerable = λ k d within. IsAnswerable-over P Q into _ _ (are.answerable k d within);
     shows = λ k d within. along _ _ _ (are.shows k d within);
-    every = λ start end walk asked answerable is_walk. are.every start end walk asked (IsAnswerable-over Q P back start end answerable)
-        (IsWalk-along Q P back start walk end is_walk);
+    every = λ start end walk asked answerable goes. are.every start end walk asked (IsAnswerable-over Q P back start end answerable) (too start end walk goes);
     rise = are.rise;
   }
+
+  -- where all walks over the links lead
+  pub answers-over : {A : Type 0} (Asked : ℤ → ℤ → Type 0) (Shows Shown : ℤ → ℤ → A → Type 0)
+      → ((s t : ℤ) (shown : A) → Shows s t shown → Shown s t shown)
+      → (answers : List (Answer A)) → AreAnswers P Asked Shows answers → AreAnswers Q Asked Shown answers
+  answers-over = answers-over_by (walks_over P) (walks_over Q) (λ s t walk is_walk. walk_wider Q P back s walk t is_walk)

@@ -1,5 +1,5 @@
 -- The names of the classes of all vertices, as a table of the classes.
-use Rattle.std.proofs.Common.{◌≡◌, ◌≢◌, ◌↔◌, ◌⊎◌, inl, inr, ⊎_elim, ℕ, suc, ◌+◌, ◌-◌, ◌<◌, ◌≤◌, ℤ, pos, Bool, true, false, List, [], ◌∷◌, ◌++◌, map, length, get_or, take, refl, sym, ap, subst, ◌∙◌, rules, arith, Ordering, Less, Equal, Greater}
+use Rattle.std.proofs.Common.{◌≡◌, ◌≢◌, ◌↔◌, inl, inr, ⊎_elim, ℕ, ◌+◌, ◌-◌, ◌<◌, ◌≤◌, ℤ, pos, false, List, [], ◌∷◌, ◌++◌, map, length, get_or, take, refl, sym, ap, subst, ◌∙◌, arith, Ordering, Less, Equal, Greater}
 use Rattle.std.specs.Prelude.{All, Any, Contains}
 use Rattle.std.specs.Cmp.{IsTotalOrder, Equal-is}
 use Rattle.std.specs.List.Sorted.{IsSorted, IsPermutation}
@@ -11,9 +11,11 @@ use Rattle.std.proofs.lemmas.List.{take_more, length-append, length-map, length-
 use Rattle.std.proofs.lemmas.List.Elements.{All-map, All-contains, Contains-get_or}
 use Rattle.std.proofs.lemmas.List.Sorted.{All-permutation, Contains-permutation}
 use Rattle.pgr_outside.specs.Lists.{IsStrictlyRising}
+use Rattle.pgr_outside.proofs.Lists.{Contains-map, Contains-from_map}
 use Rattle.pgr_walks.specs.declared.link.LinkOf.{LinkOf}
 use Rattle.pgr_walks.specs.Walk.{IsVertex}
 use Rattle.pgr_walks.specs.Graph.{IsLinkOf}
+use Rattle.pgr_walks.specs.LinkOrders.{nat_tie, then_tie}
 use Rattle.pgr_numbers.specs.Names.{AreEnds, AreNumbered, IsNumbered, id_at, named}
 use Rattle.pgr_numbers.specs.Numbering.{HasExactly}
 use Rattle.pgr_parts.specs.Classes.{Connected, StronglyConnected, IsClassName, AreClassNames}
@@ -23,9 +25,8 @@ use Rattle.pgr_rows.specs.declared.rows.Rows.TheVariants.{Parts}
 use Rattle.pgr_answer.specs.Components.{Member, member_cmp, AreMembers, part_rows, IsPartTable}
 use Rattle.pgr_answer.specs.Networks.{IsNetwork}
 use Rattle.pgr_answer.specs.Members.{numbered_cmp, member_at, AreByVertex, AreByClass, IsMemberAmong, by_ids}
-use Rattle.pgr_answer.proofs.PairLemmas.{then_equal, nat_tie}
 use Rattle.pgr_answer.proofs.FoundLemmas.{rises_sorted}
-use Rattle.pgr_answer.proofs.ClassesById.{AreNamed, mapped, image, connected_named, strong_named}
+use Rattle.pgr_answer.proofs.ClassesById.{AreNamed, connected_named, strong_named}
 
 -- the next vertex is put behind those before it
 pub by_vertex_more : (classes : List ℕ) (i : ℕ) (old new : List NumberedMember) → AreByVertex classes i old → new ≡ old ++ member_at classes i ∷ []
@@ -52,7 +53,7 @@ numbered_total = then_total (on_total (λ (m : NumberedMember). m.component) nat
 
 -- members of different vertices don't compare as equal
 apart : (a b : NumberedMember) → a.node ≢ b.node → eq_by_cmp numbered_cmp a b ≡ false
-apart a b differ = ⊎_elim (λ e. absurd (differ (nat_tie a.node b.node (then_equal (nat_cmp a.component b.component) (nat_cmp a.node b.node) ((Equal-is _).0 e)).1))) (λ e. e)
+apart a b differ = ⊎_elim (λ e. absurd (differ (nat_tie a.node b.node (then_tie (nat_cmp a.component b.component) (nat_cmp a.node b.node) ((Equal-is _).0 e)).1))) (λ e. e)
     (cases_Bool (eq_by_cmp numbered_cmp a b))
 
 -- a sort by class keeps the members, and they rise
@@ -154,9 +155,11 @@ rises_seen {X} cmp cmp_seen f (first ∷ rest) keeps rise i j y before inside =
 pub links_named : (names : List ℤ) (links : List (LinkOf ℤ)) (numbers : List (LinkOf ℕ)) (size : ℕ) (ins : ℕ → List (LinkOf ℕ)) (Has : LinkOf ℤ → Type 0)
     → AreNumbered names links numbers → HasExactly size ins numbers → ((link : LinkOf ℤ) → Contains links link ↔ Has link) → AreNamed names (IsLinkOf size ins) Has
 links_named names links numbers size ins Has are exactly listed = record {
-  to = λ link has. (listed (named names link)).0 (subst (λ ls. Contains ls (named names link)) are.same (image (named names) numbers link ((exactly link).0 has)));
+  to = λ link has. (listed (named names link)).0 (subst (λ ls. Contains ls (named names link)) are.same (Contains-map (named names) numbers link ((exactly link).0 has)));
   ends = λ link has. All-contains (IsNumbered names) numbers link are.ends ((exactly link).0 has);
-  back = λ link has. let n = mapped (named names) numbers link (subst (λ ls. Contains ls link) (sym are.same) ((listed link).1 has)) in (n.0, ((exactly n.0).1 n.1.0, n.1.1));
+  back = λ link has.
+      let n = Contains-from_map (named names) numbers link (subst (λ ls. Contains ls link) (sym are.same) ((listed link).1 has)) in
+      (n.0, ((exactly n.0).1 n.1, sym n.2));
 }
 
 -- the ends of the links of a table are names
@@ -206,7 +209,7 @@ module _ (names : List ℤ) (links : List (LinkOf ℤ)) (Has : LinkOf ℤ → Ty
       some v vertex =
           let n = is_name v vertex in
           let m = member_at classes n.0 in
-          let there = image (by_ids names) members m (by_class.every n.0 (omega (arith, n.1, are.size_is, size_is))) in
+          let there = Contains-map (by_ids names) members m (by_class.every n.0 (omega (arith, n.1, are.size_is, size_is))) in
           (there.0, by_ids names m, there.1, there.2, get_or_default names n.0 (pos 0) v n.1 ∙ n.2)
 
       keeps : (a b : NumberedMember) → Contains members a → Contains members b → member_cmp (by_ids names a) (by_ids names b) ≡ numbered_cmp a b

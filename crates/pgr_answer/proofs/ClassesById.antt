@@ -1,28 +1,14 @@
 -- Classes of vertex numbers are classes of the ids that they stand for.
-use Rattle.std.proofs.Common.{◌≡◌, ◌≢◌, ◌⊎◌, inl, inr, ⊎_elim, ℕ, zero, suc, ◌<◌, List, [], ◌∷◌, map, length, get_or, refl, sym, ap, ◌∙◌, subst, rules, arith, Ordering, Less, Greater}
+use Rattle.std.proofs.Common.{◌≡◌, inl, inr, ⊎_elim, ℕ, ◌<◌, List, [], ◌∷◌, map, length, sym, ap, ◌∙◌, subst, rules, arith, Greater}
 use Rattle.std.proofs.lemmas.Grind.{common_steps}
 use Rattle.std.specs.Prelude.{ℤ, Contains}
 use Rattle.std.specs.Ordering.{nat_cmp, int_cmp}
-use Rattle.std.proofs.lemmas.List.Elements.{All-contains}
 use Rattle.pgr_outside.specs.Lists.{IsStrictlyRising}
 use Rattle.pgr_walks.specs.declared.link.LinkOf.{LinkOf}
-use Rattle.pgr_walks.specs.Walk.{IsWalk, IsVertex}
+use Rattle.pgr_walks.specs.Walk.{IsWalk}
 use Rattle.pgr_walks.specs.Reaches.{Reaches, BothWays, turned}
-use Rattle.pgr_numbers.specs.Names.{AreEnds, AreNumbered, IsNumbered, id_at, named}
+use Rattle.pgr_numbers.specs.Names.{IsNumbered, id_at, named}
 use Rattle.pgr_parts.specs.Classes.{Connected, StronglyConnected, IsClassName}
-
--- an element of a mapped list is the image of one
-pub mapped : {X Y : Type 0} (f : X → Y) (xs : List X) (y : Y) → Contains (map f xs) y → (x : X) × (Contains xs x × (f x ≡ y))
-mapped f [] y (k, inside, is) = absurd (omega arith)
-mapped f (x ∷ xs) y (zero, inside, is) = (x, ((0, omega arith, refl), is))
-mapped f (x ∷ xs) y (suc k, inside, is) =
-    let later = mapped f xs y (k, omega arith, is) in
-    (later.0, ((suc later.1.0.0, omega (arith, later.1.0.1), later.1.0.2), later.1.1))
-
-pub image : {X Y : Type 0} (f : X → Y) (xs : List X) (x : X) → Contains xs x → Contains (map f xs) (f x)
-image f [] x (k, inside, is) = absurd (omega arith)
-image f (y ∷ xs) x (zero, inside, is) = (0, omega arith, ap f is)
-image f (y ∷ xs) x (suc k, inside, is) = let later = image f xs x (k, omega arith, is) in (suc later.0, omega (arith, later.1), later.2)
 
 -- the links of one set stand for those of the other, and lead between numbers of names
 pub record AreNamed (names : List ℤ) (Has : LinkOf ℕ → Type 0) (HasId : LinkOf ℤ → Type 0) : Type 0 where

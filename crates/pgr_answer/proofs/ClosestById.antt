@@ -3,13 +3,13 @@ use Rattle.std.proofs.Common.{◌≡◌, inl, inr, ⊎_elim, ℕ, zero, suc, ◌
 use Rattle.std.specs.Prelude.{◌↔◌, ℤ, Contains, filter}
 use Rattle.std.specs.Ordering.{nat_cmp, int_cmp}
 use Rattle.std.proofs.lemmas.Cmp.{int_cmp_total, tied_itself}
+use Rattle.pgr_outside.proofs.Lists.{Contains-map, Contains-from_map}
 use Rattle.pgr_walks.specs.LinkOrders.{int_tie}
 use Rattle.pgr_numbers.specs.Names.{id_at}
 use Rattle.pgr_reach.specs.declared.reach.ReachedOf.{ReachedOf}
 use Rattle.pgr_reach.specs.Equicost.{AreClosest, IsClosest, with_kept}
 use Rattle.pgr_answer.specs.DrivingDistance.{Rooted}
 use Rattle.pgr_answer.specs.Rooted.{named_row, named_list, IsRowBelow, IsListBelow}
-use Rattle.pgr_answer.proofs.ReachById.{mapped, image}
 
 -- the place of an id behind a name, by how the two compare
 abbrev next_place : Ordering → ℕ → ℕ
@@ -97,14 +97,14 @@ module _ (names : List ℤ)
     closest_named : (root : ℕ) (row : ReachedOf ℕ) → root < length names → row.node < length names → IsClosest nat_cmp old root row
         → IsClosest int_cmp (map (named_list names) old) (id_at names root) (named_row names row)
     closest_named root row root_below row_below closest other rows there has has_there node =
-        let list = mapped (named_list names) old (other, rows) has in
+        let list = Contains-from_map (named_list names) old (other, rows) has in
         let number = list.0 in
-        let is : named_list names number ≡ (other, rows) = list.1.1 in
+        let is : named_list names number ≡ (other, rows) = sym list.2 in
         let among : Contains (map (named_row names) number.1) there = subst (λ rs. Contains rs there) (sym (ap (λ (l : Rooted ℤ). l.1) is)) has_there in
-        let found = mapped (named_row names) number.1 there among in
-        let found_is : named_row names found.0 ≡ there = found.1.1 in
-        let bound = below number list.1.0 in
-        let same : found.0.node ≡ row.node = one found.0.node row.node (bound.1 found.0 found.1.0).0 row_below (ap (λ (r : ReachedOf ℤ). r.node) found_is ∙ node) in
+        let found = Contains-from_map (named_row names) number.1 there among in
+        let found_is : named_row names found.0 ≡ there = sym found.2 in
+        let bound = below number list.1 in
+        let same : found.0.node ≡ row.node = one found.0.node row.node (bound.1 found.0 found.1).0 row_below (ap (λ (r : ReachedOf ℤ). r.node) found_is ∙ node) in
         let cost : found.0.label.cost ≡ there.label.cost = ap (λ (r : ReachedOf ℤ). r.label.cost) found_is in
         ⊎_elim (λ less. inl (omega (arith, less, cost)))
         (λ tied. inr (
@@ -112,7 +112,7 @@ module _ (names : List ℤ)
           λ less. tied.1
               (sym (order number.0 root bound.0 root_below) ∙ ap (λ x. int_cmp x (id_at names root)) (ap (λ (l : Rooted ℤ). l.0) is) ∙ less),
         ))
-        (closest number.0 number.1 found.0 list.1.0 found.1.0 same)
+        (closest number.0 number.1 found.0 list.1 found.1 same)
 
     -- and back
     closest_numbered : (root : ℕ) (row : ReachedOf ℕ) → root < length names → IsClosest int_cmp (map (named_list names) old) (id_at names root) (named_row names row)
@@ -120,8 +120,8 @@ module _ (names : List ℤ)
     closest_numbered root row root_below closest other rows there has has_there node =
         let bound = below (other, rows) has in
         ⊎_elim inl (λ tied. inr (tied.0, λ less. tied.1 (order other root bound.0 root_below ∙ less)))
-        (closest (id_at names other) (map (named_row names) rows) (named_row names there) (image (named_list names) old (other, rows) has)
-        (image (named_row names) rows there has_there) (ap (id_at names) node))
+        (closest (id_at names other) (map (named_row names) rows) (named_row names there) (Contains-map (named_list names) old (other, rows) has)
+        (Contains-map (named_row names) rows there has_there) (ap (id_at names) node))
 
     -- closest rows by number are closest rows by id
     pub closest_by_ids : (new : List (Rooted ℕ)) → AreClosest nat_cmp old new → AreClosest int_cmp (map (named_list names) old) (map (named_list names) new)
@@ -129,13 +129,13 @@ module _ (names : List ℤ)
       keeps = by_place names closest.keeps;
       lists = ap (map (named_list names)) closest.lists ∙ all_named old (λ list has. has);
       exactly = λ root rows row has has_row.
-          let list = mapped (named_list names) old (root, rows) has in
-          let is : named_list names list.0 ≡ (root, rows) = list.1.1 in
+          let list = Contains-from_map (named_list names) old (root, rows) has in
+          let is : named_list names list.0 ≡ (root, rows) = sym list.2 in
           let among : Contains (map (named_row names) list.0.1) row = subst (λ rs. Contains rs row) (sym (ap (λ (l : Rooted ℤ). l.1) is)) has_row in
-          let found = mapped (named_row names) list.0.1 row among in
+          let found = Contains-from_map (named_row names) list.0.1 row among in
           subst (λ x. (by_place names closest.keeps x row ≡ true) ↔ IsClosest int_cmp (map (named_list names) old) x row) (ap (λ (l : Rooted ℤ). l.0) is)
-          (subst (λ r. (by_place names closest.keeps (id_at names list.0.0) r ≡ true) ↔ IsClosest int_cmp (map (named_list names) old) (id_at names list.0.0) r) found.1.1
-          (exactly list.0 found.0 list.1.0 found.1.0));
+          (subst (λ r. (by_place names closest.keeps (id_at names list.0.0) r ≡ true) ↔ IsClosest int_cmp (map (named_list names) old) (id_at names list.0.0) r) (sym found.2)
+          (exactly list.0 found.0 list.1 found.1));
     }
       where
         keeps_is : (list : Rooted ℕ) (row : ReachedOf ℕ) → Contains old list → Contains list.1 row
@@ -167,6 +167,6 @@ module _ (names : List ℤ)
     -- and the vertices that are kept are below the same number
     pub kept_below : (new : List (Rooted ℕ)) → AreClosest nat_cmp old new → (list : Rooted ℕ) → Contains new list → IsListBelow (length names) list
     kept_below new closest list has =
-        let found = mapped (with_kept closest.keeps) old list (subst (λ ls. Contains ls list) closest.lists has) in
-        let bound = below found.0 found.1.0 in
-        subst (IsListBelow (length names)) found.1.1 (bound.0, λ row has_row. bound.1 row (of_filter (closest.keeps found.0.0) found.0.1 row has_row))
+        let found = Contains-from_map (with_kept closest.keeps) old list (subst (λ ls. Contains ls list) closest.lists has) in
+        let bound = below found.0 found.1 in
+        subst (IsListBelow (length names)) (sym found.2) (bound.0, λ row has_row. bound.1 row (of_filter (closest.keeps found.0.0) found.0.1 row has_row))

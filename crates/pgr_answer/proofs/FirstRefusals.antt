@@ -1,12 +1,20 @@
 -- Where contents are known: the first refusal is the answer, unless a read failed or memory was wanting.
-use Rattle.std.proofs.Common.{◌≡◌, ℕ, List, [], ◌∷◌, ◌++◌, refl, sym, ap, subst, ◌∙◌, inl, inr, Option, Some, None, Ok, arith, Result, map}
-use Rattle.std.specs.Prelude.{◌⊎◌, All, IfSome, IsSomeAnd, IfErr, IsErrAnd, IsErrOf, IsOk, Err}
-use Rattle.std.proofs.lemmas.List.Elements.{All-nil, All-cons, All-head, All-tail, All-append}
+use Rattle.std.proofs.Common.{◌≡◌, ℕ, List, [], ◌∷◌, ◌++◌, refl, sym, ap, subst, ◌∙◌, inl, inr, Option, Some, None, Ok, Result, map}
+use Rattle.std.specs.Prelude.{◌⊎◌, All, IfSome, IsSomeAnd, IfErr, IsErrAnd, IsErrOf, IsOk, Err, option_map}
+use Rattle.std.proofs.lemmas.List.Elements.{All-head, All-tail}
+use Rattle.pgr_words.specs.declared.command.Command.{Command}
+use Rattle.pgr_table.specs.declared.fault.TableFault.{TableFault}
 use Rattle.pgr_answer.specs.declared.role.Role.{Role}
+use Rattle.pgr_answer.specs.declared.role.Role.TheVariants.{Restrictions}
 use Rattle.pgr_answer.specs.declared.refused.Refused.{Refused}
 use Rattle.pgr_answer.specs.declared.refused.Refused.TheVariants.{ReadFailed, TooLong, Table, Memory}
-use Rattle.pgr_answer.specs.Files.{File, Content, refusal_of, IsPossible, IsAccepted, AreAccepted, IsKnownAccepted}
-use Rattle.pgr_answer.specs.Refusals.{IsContentRefused, IsRefused, HoldsAmong, IsFirstRefusal}
+use Rattle.pgr_answer.specs.Files.{File, Content, files_of, refusal_of, IsPossible, IsAccepted, AreAccepted, IsKnownAccepted}
+use Rattle.pgr_answer.specs.declared.tables.Tables.{Tables}
+use Rattle.pgr_answer.specs.Tables.{no_tables}
+use Rattle.pgr_answer.specs.Reading.{AreRead}
+use Rattle.pgr_answer.specs.Contents.{tables_of}
+use Rattle.pgr_answer.specs.Together.{refusal_together}
+use Rattle.pgr_answer.specs.Refusals.{IsRefused, HoldsAmong, IsRefusedTogether, AreAcceptedTogether, IsFirstAmong, IsFirstRefusal}
 
 -- a refusal is this one, or out of memory, or a failed read
 abbrev pub IsThis : Refused → Refused → Type 0
@@ -80,7 +88,7 @@ module _ (known : List ℕ → Option (List ℕ)) (before after : List ℕ → �
       (All-tail (IsPossible known) content contents possible) (All-tail IsAccepted content contents accepted) is (All-tail (IsKnownAccepted known) head front known_accepted) first
 
   -- the first refusal by known contents is the refusal among the files, or that one comes from outside
-  pub first_among : (files : List File) (found refused : Refused) → HoldsAmong known before after files found → IsFirstRefusal known files refused → IsThis found refused
+  pub first_among : (files : List File) (found refused : Refused) → HoldsAmong known before after files found → IsFirstAmong known files refused → IsThis found refused
   first_among files found refused holds first =
       let order = ap (λ front. front ++ holds.file ∷ holds.place.back) holds.accepted.of_files ∙ sym holds.place.order ∙ first.place.order in
       first_by_fronts found refused holds.contents holds.file holds.place.back first.front first.file first.place.back order holds.accepted.possible holds.accepted.accepted
@@ -115,9 +123,45 @@ module _ (known : List ℕ → Option (List ℕ)) where
       let rest : map (λ content. content.file) contents ≡ front ++ file ∷ back = cc in
       none_by_front refused contents front file back rest (All-tail (IsPossible known) content contents possible) (All-tail IsAccepted content contents accepted) first
 
-  pub none_first : (files : List File) (contents : List Content) (refused : Refused) → AreAccepted known files contents → IsFirstRefusal known files refused → ⊥
+  pub none_first : (files : List File) (contents : List Content) (refused : Refused) → AreAccepted known files contents → IsFirstAmong known files refused → ⊥
   none_first files contents refused are first = none_by_front refused contents first.front first.file first.place.back
       (are.of_files ∙ first.place.order) are.possible are.accepted first.refuses
+
+-- where there is no refusal of tables together, no restriction takes the sum too far
+pub not_restricted : (fault : Option TableFault) → option_map (Table Restrictions) fault ≡ None → fault ≡ None
+not_restricted None is = refl
+not_restricted (Some fault) is = absurd cc
+
+-- tables that were read of all files, and are refused together
+pub refused_read : (known : List ℕ → Option (List ℕ)) (command : Command) (found : Refused) {tables : Tables} → AreRead known (files_of command) no_tables tables
+    → refusal_together command tables ≡ Some found → IsRefusedTogether known command found
+refused_read known command found read refuses = record {
+  contents = read.contents;
+  accepted = read.accepted;
+  refuses = subst (λ tables. refusal_together command tables ≡ Some found) read.tables refuses;
+}
+
+-- of all files, with the tables that they are together
+module _ (known : List ℕ → Option (List ℕ)) (before after : List ℕ → ℕ) (command : Command) where
+  -- the first refusal by known contents is the refusal of a file, or that one comes from outside
+  pub first_of_file : (found refused : Refused) → HoldsAmong known before after (files_of command) found → IsFirstRefusal known command refused → IsThis found refused
+  first_of_file found refused holds (inl first) = first_among known before after (files_of command) found refused holds first
+  first_of_file found refused holds (inr first) = this_from_outside found refused (outside_among known before after (files_of command) found holds first.accepted)
+
+  -- the first refusal by known contents is that of the tables together
+  pub first_together : (found refused : Refused) → IsRefusedTogether known command found → IsFirstRefusal known command refused → IsThis found refused
+  first_together found refused is (inl first) = absurd (none_first known (files_of command) is.contents refused is.accepted first)
+  first_together found refused is (inr first) = inl (same_some found refused (sym is.refuses ∙ first.refuses is.contents is.accepted))
+
+  -- where the tables of all contents are accepted together, they aren't refused
+  pub not_together : (found : Refused) → IsRefusedTogether known command found → AreAcceptedTogether known command → ⊥
+  not_together found is together = not_refused found (sym is.refuses ∙ together is.contents is.accepted)
+
+  -- accepted contents that aren't refused together have no first refusal
+  pub no_first : (refused : Refused) (contents : List Content) → AreAccepted known (files_of command) contents → refusal_together command (tables_of contents) ≡ None
+      → IsFirstRefusal known command refused → ⊥
+  no_first refused contents are together (inl first) = none_first known (files_of command) contents refused are first
+  no_first refused contents are together (inr first) = not_refused refused (sym (first.refuses contents are) ∙ together)
 
 -- what an answer says that is an error made of this refusal
 module _ {X : Type 0} where

@@ -1,11 +1,10 @@
 -- Rows of flows and of cuts grow by what the next arc gives.
-use Rattle.std.proofs.Common.{◌≡◌, ℕ, ◌+◌, ◌<◌, ◌≤◌, zero, suc, Bool, true, false, cond, List, [], ◌∷◌, ◌++◌, append_assoc, length, drop, map, get_or, refl, sym, ap, ◌∙◌, arith}
+use Rattle.std.proofs.Common.{◌≡◌, ℕ, ◌+◌, ◌<◌, Bool, true, false, cond, List, [], ◌∷◌, ◌++◌, append_assoc, length, drop, map, get_or, refl, sym, ap, ◌∙◌, arith}
 use Rattle.std.specs.Prelude.{ℤ, filter, nat_lt}
 use Rattle.std.proofs.lemmas.Bool.Decides.{Decides-ltb}
-use Rattle.std.proofs.lemmas.List.{append-nil, length-append, drop_more}
+use Rattle.std.proofs.lemmas.List.{append-nil, length-append, drop_more, map-append}
 use Rattle.pgr_walks.specs.declared.link.LinkOf.{LinkOf}
 use Rattle.pgr_numbers.specs.Names.{named}
-use Rattle.pgr_flow.specs.Flow.{AreWithin}
 use Rattle.pgr_flow.specs.Cut.{leads_out}
 use Rattle.pgr_rows.specs.declared.rows.FlowRow.{FlowRow}
 use Rattle.pgr_rows.specs.declared.rows.CutRow.{CutRow}
@@ -44,10 +43,6 @@ filter-first p x xs = at (p x)
     at true = refl
     at false = refl
 
-map-append : {X Y : Type 0} (f : X → Y) (xs ys : List X) → map f (xs ++ ys) ≡ map f xs ++ map f ys
-map-append f [] ys = refl
-map-append f (x ∷ xs) ys = ap (λ rest. f x ∷ rest) (map-append f xs ys)
-
 -- of what is left, the next element that is kept stands at the front
 pub kept_split : {X Y : Type 0} (f : X → Y) (p : X → Bool) (xs : List X) (i : ℕ) (d : X) → i < length xs
     → map f (filter p (drop i xs)) ≡ map f (filter p (get_or xs i d ∷ [])) ++ map f (filter p (drop (i + 1) xs))
@@ -63,19 +58,6 @@ carriers_split arcs flows i d in_arcs in_flows =
     ap (λ left. carriers left (drop i flows)) (drop_more arcs i d in_arcs)
     ∙ ap (λ left. carriers (get_or arcs i d ∷ drop (i + 1) arcs) left) (drop_more flows i 0 in_flows)
     ∙ filter-first (λ (c : Carrier). nat_lt 0 c.flow) (record { arc = get_or arcs i d; flow = get_or flows i 0 }) (with_flows (drop (i + 1) arcs) (drop (i + 1) flows))
-
--- there is a flow for each arc, and it is within the capacity
-pub within_length : (arcs : List (LinkOf ℤ)) (flows : List ℕ) → AreWithin arcs flows → length flows ≡ length arcs
-within_length [] [] within = refl
-within_length [] (n ∷ flows) within = absurd within
-within_length (arc ∷ arcs) [] within = absurd within
-within_length (arc ∷ arcs) (n ∷ flows) within = omega (arith, within_length arcs flows within.1)
-
-pub within_at : (arcs : List (LinkOf ℤ)) (flows : List ℕ) (k : ℕ) (d : LinkOf ℤ) → AreWithin arcs flows → k < length arcs → get_or flows k 0 ≤ (get_or arcs k d).cost
-within_at [] flows k d within inside = absurd (omega arith)
-within_at (arc ∷ arcs) [] k d within inside = absurd within
-within_at (arc ∷ arcs) (n ∷ flows) zero d within inside = within.0
-within_at (arc ∷ arcs) (n ∷ flows) (suc k) d within inside = within_at arcs flows k d within.1 (omega arith)
 
 -- an arc without flow has no row, and one with flow has one
 pub flow_passed : (old : List FlowRow) (arc : LinkOf ℤ) (flow : ℕ) → flow ≡ 0 → old ≡ old ++ rows_from flow_row (length old + 1) (carriers (arc ∷ []) (flow ∷ []))

@@ -1,9 +1,9 @@
 -- What is found over a network between numbers is what flows between ids ask for.
-use Rattle.std.proofs.Common.{◌≡◌, ◌⊎◌, inl, inr, ⊎_elim, ℕ, ◌+◌, ◌<◌, Bool, true, false, cond, ◌&&◌, ◌||◌, List, [], ◌∷◌, length, map, get_or, nat_eq, pos, refl, sym, ap, ◌∙◌, subst, arith}
+use Rattle.std.proofs.Common.{◌≡◌, ◌⊎◌, inl, inr, ⊎_elim, ℕ, ◌<◌, Bool, true, false, cond, ◌||◌, List, [], ◌∷◌, length, map, get_or, nat_eq, pos, refl, sym, ap, ◌∙◌, subst, arith}
 use Rattle.std.specs.Prelude.{ℤ, All, Contains, filter}
 use Rattle.std.specs.Ordering.{int_cmp, int_eq}
 use Rattle.std.specs.Cmp.Derive.{both_true}
-use Rattle.std.proofs.lemmas.Bool.{eqb-true, or_cases, or_left, or_right}
+use Rattle.std.proofs.lemmas.Bool.{eqb-true, and_parts, or_cases, or_left, or_right}
 use Rattle.std.proofs.lemmas.Bool.Decides.{Decides-int_eq, same_from_decides}
 use Rattle.std.proofs.lemmas.Cmp.{int_eq_equiv, nat_eq_equiv}
 use Rattle.std.proofs.lemmas.List.{get_or_default}
@@ -28,12 +28,6 @@ use Rattle.pgr_answer.specs.FlowNetworks.{IsFlowNetwork, IsCommon, IsGreatestFlo
 use Rattle.pgr_answer.specs.Gathering.{AreNumbersOf}
 use Rattle.pgr_answer.proofs.FlowsById.{Agree, id_set, id_set_at, out_agree, greatest_named, side_named}
 
--- both of two tests that hold together
-both_hold : (b c : Bool) → (b && c) ≡ true → (b ≡ true) × (c ≡ true)
-both_hold true true e = (refl, refl)
-both_hold true false e = absurd cc
-both_hold false c e = absurd cc
-
 -- the arcs that lead out of sets that agree stand for each other
 pub out_named : (names : List ℤ) (p : ℤ → Bool) (q : ℕ → Bool) → Agree names p q → (arcs : List (LinkOf ℕ)) → All (IsNumbered names) arcs
     → filter (leads_out p) (map (named names) arcs) ≡ map (named names) (filter (leads_out q) arcs)
@@ -52,9 +46,6 @@ out_named names p q same (arc ∷ arcs) ends =
 module _ (arcs : List (LinkOf ℤ)) (names : List ℤ) (net : Network) (starts ends : List ℤ) (sources sinks : List ℕ)
     (network : IsFlowNetwork arcs names net starts ends sources sinks)
     (one : (m n : ℕ) → IsStrictlyRising int_cmp names → m < length names → n < length names → id_at names m ≡ id_at names n → m ≡ n) where
-  one_number : (m n : ℕ) → m < length names → n < length names → id_at names m ≡ id_at names n → m ≡ n
-  one_number m n = one m n network.named.rise
-
   -- an end of an arc is a name
   end_is_name : (v : ℤ) → is_end arcs v ≡ true → (n : ℕ) × (n < length names) × (id_at names n ≡ v)
   end_is_name v e =
@@ -81,7 +72,7 @@ module _ (arcs : List (LinkOf ℤ)) (names : List ℤ) (net : Network) (starts e
     (λ e. (are n).1 (
       inside,
       Contains-from_any {eq = int_eq} (λ v w. (Decides-int_eq v w).0) (id_at names n) ids
-          (both_hold (is_end arcs (id_at names n)) (among int_eq ids (id_at names n)) e).1,
+          (and_parts (is_end arcs (id_at names n)) (among int_eq ids (id_at names n)) e).1,
     )),
     (λ there. both_true (name_is_end n inside) (list_any-from_Contains int_eq_equiv (id_at names n) ids ((are n).0 there).1)),
   )
@@ -91,7 +82,7 @@ module _ (arcs : List (LinkOf ℤ)) (names : List ℤ) (net : Network) (starts e
   below ids numbers are n e = ((are n).0 (Contains-from_any {eq = nat_eq} eqb-true n numbers e)).0
 
   is_name : (ids : List ℤ) (v : ℤ) → is_named arcs ids v ≡ true → (n : ℕ) × (n < length names) × (id_at names n ≡ v)
-  is_name ids v e = end_is_name v (both_hold (is_end arcs v) (among int_eq ids v) e).0
+  is_name ids v e = end_is_name v (and_parts (is_end arcs v) (among int_eq ids v) e).0
 
   -- a number that is both source and sink stands for a vertex that both lists name
   pub shared : IsCommon sources sinks → IsShared arcs starts ends
@@ -118,20 +109,22 @@ module _ (arcs : List (LinkOf ℤ)) (names : List ℤ) (net : Network) (starts e
   pub greatest_between : (flows : List ℕ) (value : ℕ) → IsGreatestFlow nat_eq net.arcs (among nat_eq sources) (among nat_eq sinks) flows value
       → IsGreatestBetween arcs starts ends flows value
   greatest_between flows value found = subst (λ (some : List (LinkOf ℤ)). IsGreatestFlow int_eq some (is_named arcs starts) (is_named arcs ends) flows value) network.numbered.same
-      (greatest_named names one_number net.arcs network.numbered.ends (is_named arcs starts) (is_named arcs ends) (among nat_eq sources) (among nat_eq sinks)
+      (greatest_named names (λ m n. one m n network.named.rise) net.arcs network.numbered.ends
+      (is_named arcs starts) (is_named arcs ends) (among nat_eq sources) (among nat_eq sinks)
       (agree starts sources network.sources_are) (agree ends sinks network.sinks_are) flows value found)
 
   -- the least source side is the one between them
   pub side_between : (q : ℕ → Bool) → IsLeastSide net.arcs (among nat_eq sources) (among nat_eq sinks) q → IsLeastSideBetween arcs starts ends (id_set names q)
   side_between q side = subst (λ (some : List (LinkOf ℤ)). IsLeastSide some (is_named arcs starts) (is_named arcs ends) (id_set names q)) network.numbered.same
-      (side_named names one_number net.arcs network.numbered.ends (is_named arcs starts) (is_named arcs ends) (among nat_eq sources) (among nat_eq sinks)
+      (side_named names (λ m n. one m n network.named.rise) net.arcs network.numbered.ends
+      (is_named arcs starts) (is_named arcs ends) (among nat_eq sources) (among nat_eq sinks)
       (agree starts sources network.sources_are) (agree ends sinks network.sinks_are)
       (below starts sources network.sources_are) (below ends sinks network.sinks_are) (is_name starts) (is_name ends) q side)
 
   -- the arcs that lead out of it are those by number
   pub out_between : (q : ℕ → Bool) → filter (leads_out (id_set names q)) arcs ≡ map (named names) (filter (leads_out q) net.arcs)
   out_between q = ap (filter (leads_out (id_set names q))) (sym network.numbered.same)
-      ∙ out_named names (id_set names q) q (id_set_at names one_number q) net.arcs network.numbered.ends
+      ∙ out_named names (id_set names q) q (id_set_at names (λ m n. one m n network.named.rise) q) net.arcs network.numbered.ends
 
   -- sources and sinks are vertices of the network
   pub sources_below : All (λ v. v < net.size) sources

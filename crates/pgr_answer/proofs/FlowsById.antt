@@ -2,29 +2,22 @@
 -- numbers stand for ids have the same sums over arcs, so a flow of the one network is a flow of the other, and a cut of the one has the capacity of a cut of the other.
 use Rattle.std.proofs.Common.{◌≡◌, ◌⊎◌, inl, inr, ℕ, ◌+◌, zero, suc, ◌<◌, ◌≤◌, Bool, true, false, cond, not, ◌&&◌, List, [], ◌∷◌, length, map, nat_eq, refl, sym, ap, ◌∙◌, subst, arith}
 use Rattle.std.specs.Prelude.{ℤ, All}
-use Rattle.std.specs.List.{sum_by}
 use Rattle.std.specs.Ordering.{int_eq}
-use Rattle.std.specs.Bool.{Decides}
-use Rattle.std.proofs.lemmas.Bool.{eqb-true, eq-eqb, cases_lt}
+use Rattle.std.proofs.lemmas.Bool.{eqb-true, eq-eqb, cases_lt, false_from_ne_true}
 use Rattle.std.proofs.lemmas.Bool.Decides.{Decides-int_eq, same_from_decides}
 use Rattle.std.proofs.lemmas.List.Elements.{All-head, All-tail}
 use Rattle.std.proofs.lemmas.List.Sums.{sum_by-cons}
 use Rattle.pgr_walks.specs.declared.link.LinkOf.{LinkOf}
 use Rattle.pgr_numbers.specs.Names.{IsNumbered, id_at, named}
-use Rattle.pgr_flow.specs.Flow.{sum_where, leaving, entering, AreWithin, IsFlow, HasValue, IsGreatestValue, IsGreatestFlow}
+use Rattle.pgr_flow.specs.Flow.{sum_where, leaving, entering, AreWithin, IsFlow, IsGreatestFlow}
 use Rattle.pgr_flow.specs.Cut.{IsCut, IsLeastCut, IsLeastSide, leads_out, capacity_of}
-
--- a test that doesn't hold is false
-not_true : (b : Bool) → (b ≡ true → ⊥) → b ≡ false
-not_true true differs = absurd (differs refl)
-not_true false differs = refl
 
 never : false ≡ true → ⊥
 never e = absurd cc
 
 -- two ids that differ are told apart
 told_apart : (v w : ℤ) → (v ≡ w → ⊥) → int_eq v w ≡ false
-told_apart v w differ = not_true (int_eq v w) (λ e. differ ((Decides-int_eq v w).0 e))
+told_apart v w differ = false_from_ne_true (int_eq v w) (λ e. differ ((Decides-int_eq v w).0 e))
 
 -- an id that differs from a name and from those behind it differs from all
 differ_more : (v x : ℤ) (xs : List ℤ) → int_eq v x ≡ false → ((n : ℕ) → n < length xs → int_eq v (id_at xs n) ≡ false)
@@ -135,7 +128,7 @@ module _ (names : List ℤ) (one : (m n : ℕ) → m < length names → n < leng
 
   -- a number that is none of a name is no end
   far_agrees : (n : ℕ) → length names ≤ n → Agree names (λ v. false) (nat_eq n)
-  far_agrees n far m m_in = sym (not_true (nat_eq n m) (λ e. absurd (let same = eqb-true n m e in omega arith)))
+  far_agrees n far m m_in = sym (false_from_ne_true (nat_eq n m) (λ e. absurd (let same = eqb-true n m e in omega arith)))
 
   -- a flow by number is one by id
   flow_named : (flows : List ℕ) → IsFlow nat_eq arcs s t flows → IsFlow int_eq (map (named names) arcs) source sink flows

@@ -1,26 +1,27 @@
 -- What is found for pairs of numbers grows by a pair at a time, and once sorted it rises by start and then by end.
-use Rattle.std.proofs.Common.{◌≡◌, ◌≢◌, ℕ, zero, suc, ℤ, ◌+◌, ◌-◌, ◌<◌, ◌≤◌, ◌⊎◌, inl, inr, ⊎_elim, Bool, true, false, List, [], ◌∷◌, ◌++◌, length, map, get_or, take, drop, refl, sym, ap, subst, ◌∙◌, arith, append_assoc, append-nil, Ordering, Less, Equal, Greater}
+use Rattle.std.proofs.Common.{◌≡◌, ◌≢◌, ℕ, zero, suc, ℤ, ◌+◌, ◌-◌, ◌<◌, ⊎_elim, true, false, List, [], ◌∷◌, ◌++◌, length, map, get_or, take, refl, sym, ap, subst, ◌∙◌, arith, append_assoc, append-nil, Ordering, Less, Equal, Greater}
 use Rattle.std.specs.Prelude.{All, Any, Contains}
 use Rattle.std.specs.List.{AllPairs, IsDistinct}
 use Rattle.std.specs.List.Sorted.{IsSorted, IsPermutation}
-use Rattle.std.specs.Ordering.{nat_cmp, eq_by_cmp, ordering_then, is_eq, is_lt, ordering_reverse}
+use Rattle.std.specs.Ordering.{nat_cmp, eq_by_cmp, ordering_then, is_lt}
 use Rattle.std.specs.Cmp.{IsTotalOrder, Equal-is}
 use Rattle.std.proofs.lemmas.Bool.{cases_Bool}
 use Rattle.std.proofs.lemmas.Cmp.{nat_cmp_total, on_total, then_total, eq_by_cmp_equiv}
-use Rattle.std.proofs.lemmas.List.{take_more, take_all, length-append, length-map, get_or-map, get_or_append_left, get_or-append_right}
+use Rattle.std.proofs.lemmas.List.{take_more, length-append, length-map, get_or-map, get_or_append_left, get_or-append_right}
 use Rattle.std.proofs.lemmas.List.Elements.{All-nil, All-push, All-weaker, All-map, Contains-append_left, Contains-push, Contains-push_cases}
-use Rattle.std.proofs.lemmas.List.Quantifiers.{all_pairs_push}
+use Rattle.std.proofs.lemmas.List.Quantifiers.{Any-push, all_pairs_push}
 use Rattle.std.proofs.lemmas.List.Sorted.{All-permutation, Contains-permutation, sorted_far, ranks_by}
 use Rattle.std.proofs.lemmas.Map.Keys.{IsDistinct-from_apart, IsDistinct-IsPermutation, apart_from_distinct}
 use Rattle.pgr_outside.specs.Lists.{IsStrictlyRising}
+use Rattle.pgr_outside.proofs.Lists.{Any-append_left}
 use Rattle.pgr_walks.specs.declared.link.LinkOf.{LinkOf}
-use Rattle.pgr_walks.specs.Walk.{IsWalk}
+use Rattle.pgr_walks.proofs.Rising.{less_by_rest}
 use Rattle.pgr_numbers.specs.Names.{id_at}
 use Rattle.pgr_answer.specs.declared.pair.Pair.{Pair}
 use Rattle.pgr_answer.specs.declared.found.Found.{Found}
 use Rattle.pgr_answer.specs.Gathering.{pair_cmp}
-use Rattle.pgr_answer.specs.Finding.{IsPairAmong, HaveEnd, pair_of, found_cmp, AreFound, RisesByPair, Extends}
-use Rattle.pgr_answer.proofs.PairLemmas.{pair_tie, pair_total, same_pair}
+use Rattle.pgr_answer.specs.Finding.{IsPairAmong, HaveEnd, pair_of, found_cmp, AreFoundBy, RisesBy, RisesByPair, ExtendsInOrder, ExtendsBy}
+use Rattle.pgr_answer.proofs.PairLemmas.{same_pair}
 
 -- what rises, rises in its front
 pub rises_front : {X : Type 0} (cmp : X → X → Ordering) (xs ys : List X) → IsStrictlyRising cmp (xs ++ ys) → IsStrictlyRising cmp xs
@@ -37,74 +38,84 @@ before_last cmp xs y x rise (k, within, is) =
     let last : get_or (xs ++ y ∷ []) (length xs) x ≡ y = get_or-append_right xs (y ∷ []) (length xs) (length xs) x refl (omega arith) ∙ ap (λ n. get_or (y ∷ []) n x) none in
     ap (λ a. cmp a y) (sym front) ∙ ap (cmp (get_or (xs ++ y ∷ []) k x)) (sym last) ∙ rise k (length xs) x within (omega (arith, length-append xs (y ∷ [])))
 
--- some element of a list is some element of it with one more
-Any-push_left : {X : Type 0} (P : X → Type 0) (xs : List X) (y : X) → Any P xs → Any P (xs ++ y ∷ [])
-Any-push_left P xs y h = let k = Contains-append_left xs (y ∷ []) h.1 (h.0, h.2, h.3) in (k.0, h.1, k.1, k.2, h.4)
-
-Any-push_right : {X : Type 0} (P : X → Type 0) (xs : List X) (y : X) → P y → Any P (xs ++ y ∷ [])
-Any-push_right P xs y p = let k = Contains-push xs y in (k.0, y, k.1, k.2, p)
-
-module _ {Shown : Type 0} (Has : LinkOf ℤ → Type 0) (Shows : ℤ → ℤ → Shown → Type 0) (names : List ℤ) where
+module _ {Shown : Type 0} (cmp : Pair → Pair → Ordering) (Leads : ℤ → ℤ → List (LinkOf ℤ) → Type 0) (Shows : ℤ → ℤ → Shown → Type 0) (names : List ℤ) where
   -- what is found for pairs, where one more is done
   weaker : (done : List Pair) (pair : Pair) (found : List (Found Shown)) → All (λ f. Contains done (pair_of f)) found → All (λ f. Contains (done ++ pair ∷ []) (pair_of f)) found
   weaker done pair found asked = All-weaker (λ f. Contains done (pair_of f)) (λ f. Contains (done ++ pair ∷ []) (pair_of f))
       (λ f there. Contains-append_left done (pair ∷ []) (pair_of f) there) found asked
 
   -- something is found for one more pair
-  pub extends_some : (start end : ℕ) (kept : Shown) (old new : List (Found Shown)) → Shows (id_at names start) (id_at names end) kept
+  pub extends_some_by : (start end : ℕ) (kept : Shown) (old new : List (Found Shown)) → Shows (id_at names start) (id_at names end) kept
       → new ≡ old ++ record { start = start; end = end; kept = kept } ∷ []
-      → Extends Has Shows names (record { end = end; start = start } ∷ []) old new
-  extends_some start end kept old new shows new_is done rise (are, by_pair) =
+      → ExtendsInOrder cmp Leads Shows names (record { end = end; start = start } ∷ []) old new
+  extends_some_by start end kept old new shows new_is done rise (are, by_pair) =
       let pair : Pair = record { end = end; start = start } in
       let this : Found Shown = record { start = start; end = end; kept = kept } in
-      let found : AreFound Has Shows names (done ++ pair ∷ []) (old ++ this ∷ []) = record {
+      let found : AreFoundBy Leads Shows names (done ++ pair ∷ []) (old ++ this ∷ []) = record {
         asked = All-push (λ f. Contains (done ++ pair ∷ []) (pair_of f)) old this (weaker done pair old are.asked) (Contains-push done pair);
         shows = All-push (λ f. Shows (id_at names f.start) (id_at names f.end) f.kept) old this are.shows shows;
         every = λ other walk there is_walk. ⊎_elim
-            (λ before. Any-push_left (λ f. pair_of f ≡ other) old this (are.every other walk before is_walk))
-            (λ same. Any-push_right (λ f. pair_of f ≡ other) old this same)
+            (λ before. Any-append_left (λ f. pair_of f ≡ other) old (this ∷ []) (are.every other walk before is_walk))
+            (λ same. Any-push (λ f. pair_of f ≡ other) old this same)
             (Contains-push_cases done pair other there);
       } in
-      let rises : RisesByPair (old ++ this ∷ []) = all_pairs_push (λ f g. pair_cmp (pair_of f) (pair_of g) ≡ Less) old this by_pair
-      (λ k d below. before_last pair_cmp done pair (pair_of (get_or old k d)) rise (are.asked k d below)) in
-      subst (λ found. AreFound Has Shows names (done ++ pair ∷ []) found × RisesByPair found) (sym new_is) (found, rises)
+      let rises : RisesBy cmp (old ++ this ∷ []) = all_pairs_push (λ f g. cmp (pair_of f) (pair_of g) ≡ Less) old this by_pair
+      (λ k d below. before_last cmp done pair (pair_of (get_or old k d)) rise (are.asked k d below)) in
+      subst (λ found. AreFoundBy Leads Shows names (done ++ pair ∷ []) found × RisesBy cmp found) (sym new_is) (found, rises)
 
   -- nothing is found for one more pair, which has no walk
-  pub extends_none : (pair : Pair) (found : List (Found Shown)) → ((walk : List (LinkOf ℤ)) → IsWalk Has (id_at names pair.start) walk (id_at names pair.end) → ⊥)
-      → Extends Has Shows names (pair ∷ []) found found
-  extends_none pair found none done rise (are, by_pair) = (
+  pub extends_none_by : (pair : Pair) (found : List (Found Shown)) → ((walk : List (LinkOf ℤ)) → Leads (id_at names pair.start) (id_at names pair.end) walk → ⊥)
+      → ExtendsInOrder cmp Leads Shows names (pair ∷ []) found found
+  extends_none_by pair found none done rise (are, by_pair) = (
     record {
       asked = weaker done pair found are.asked;
       shows = are.shows;
       every = λ other walk there is_walk. ⊎_elim
           (λ before. are.every other walk before is_walk)
-          (λ same. absurd (none walk (subst (λ (p : Pair). IsWalk Has (id_at names p.start) walk (id_at names p.end)) (sym same) is_walk)))
+          (λ same. absurd (none walk (subst (λ (p : Pair). Leads (id_at names p.start) (id_at names p.end) walk) (sym same) is_walk)))
           (Contains-push_cases done pair other there);
     },
     by_pair,
   )
 
   -- no more pairs
-  pub extends_nothing : (found : List (Found Shown)) → Extends Has Shows names [] found found
-  extends_nothing found done rise base = subst (λ pairs. AreFound Has Shows names pairs found × RisesByPair found) (sym (append-nil done)) base
+  pub extends_nothing_by : (found : List (Found Shown)) → ExtendsInOrder cmp Leads Shows names [] found found
+  extends_nothing_by found done rise base = subst (λ pairs. AreFoundBy Leads Shows names pairs found × RisesBy cmp found) (sym (append-nil done)) base
 
   -- more pairs, and then others
-  pub extends_both : (more others : List Pair) (old middle new : List (Found Shown)) → Extends Has Shows names more old middle → Extends Has Shows names others middle new
-      → Extends Has Shows names (more ++ others) old new
-  extends_both more others old middle new first second done rise base =
+  pub extends_both_by : (more others : List Pair) (old middle new : List (Found Shown)) → ExtendsInOrder cmp Leads Shows names more old middle
+      → ExtendsInOrder cmp Leads Shows names others middle new
+      → ExtendsInOrder cmp Leads Shows names (more ++ others) old new
+  extends_both_by more others old middle new first second done rise base =
       let order = append_assoc done more others in
-      let rises : IsStrictlyRising pair_cmp ((done ++ more) ++ others) = subst (IsStrictlyRising pair_cmp) (sym order) rise in
-      subst (λ pairs. AreFound Has Shows names pairs new × RisesByPair new) order (second (done ++ more) rises (first done (rises_front pair_cmp (done ++ more) others rises) base))
+      let rises : IsStrictlyRising cmp ((done ++ more) ++ others) = subst (IsStrictlyRising cmp) (sym order) rise in
+      subst (λ pairs. AreFoundBy Leads Shows names pairs new × RisesBy cmp new) order (second (done ++ more) rises (first done (rises_front cmp (done ++ more) others rises) base))
 
   -- one pair more of a group
-  pub extends_more : (group : List Pair) (i : ℕ) (d pair : Pair) (old middle new : List (Found Shown)) → i < length group → pair ≡ get_or group i d
-      → Extends Has Shows names (take i group) old middle → Extends Has Shows names (pair ∷ []) middle new → Extends Has Shows names (take (i + 1) group) old new
-  extends_more group i d pair old middle new inside is first second =
+  pub extends_more_by : (group : List Pair) (i : ℕ) (d pair : Pair) (old middle new : List (Found Shown)) → i < length group → pair ≡ get_or group i d
+      → ExtendsInOrder cmp Leads Shows names (take i group) old middle → ExtendsInOrder cmp Leads Shows names (pair ∷ []) middle new
+      → ExtendsInOrder cmp Leads Shows names (take (i + 1) group) old new
+  extends_more_by group i d pair old middle new inside is first second =
       let longer = take_more group i d inside ∙ ap (λ p. take i group ++ p ∷ []) (sym is) in
-      subst (λ pairs. Extends Has Shows names pairs old new) (sym longer) (extends_both (take i group) (pair ∷ []) old middle new first second)
+      subst (λ pairs. ExtendsInOrder cmp Leads Shows names pairs old new) (sym longer) (extends_both_by (take i group) (pair ∷ []) old middle new first second)
+
+module _ {Shown : Type 0} (Leads : ℤ → ℤ → List (LinkOf ℤ) → Type 0) (Shows : ℤ → ℤ → Shown → Type 0) (names : List ℤ) where
+  -- the same by end, and then by start
+  pub extends_some : (start end : ℕ) (kept : Shown) (old new : List (Found Shown)) → Shows (id_at names start) (id_at names end) kept
+      → new ≡ old ++ record { start = start; end = end; kept = kept } ∷ []
+      → ExtendsBy Leads Shows names (record { end = end; start = start } ∷ []) old new
+  extends_some = extends_some_by pair_cmp Leads Shows names
+
+  pub extends_none : (pair : Pair) (found : List (Found Shown)) → ((walk : List (LinkOf ℤ)) → Leads (id_at names pair.start) (id_at names pair.end) walk → ⊥)
+      → ExtendsBy Leads Shows names (pair ∷ []) found found
+  extends_none = extends_none_by pair_cmp Leads Shows names
+
+  pub extends_more : (group : List Pair) (i : ℕ) (d pair : Pair) (old middle new : List (Found Shown)) → i < length group → pair ≡ get_or group i d
+      → ExtendsBy Leads Shows names (take i group) old middle → ExtendsBy Leads Shows names (pair ∷ []) middle new → ExtendsBy Leads Shows names (take (i + 1) group) old new
+  extends_more = extends_more_by pair_cmp Leads Shows names
 
   -- nothing is found for no pairs
-  pub none_found : AreFound Has Shows names [] []
+  pub none_found : AreFoundBy Leads Shows names [] []
   none_found = record {
     asked = All-nil (λ f. Contains [] (pair_of f));
     shows = All-nil
@@ -113,8 +124,8 @@ module _ {Shown : Type 0} (Has : LinkOf ℤ → Type 0) (Shows : ℤ → ℤ →
   }
 
   -- what is found, in another order
-  pub found_moved : (pairs : List Pair) (found sorted : List (Found Shown)) → IsPermutation found sorted → AreFound Has Shows names pairs found
-      → AreFound Has Shows names pairs sorted
+  pub found_moved : (pairs : List Pair) (found sorted : List (Found Shown)) → IsPermutation found sorted → AreFoundBy Leads Shows names pairs found
+      → AreFoundBy Leads Shows names pairs sorted
   found_moved pairs found sorted moved are = record {
     asked = All-permutation (λ f. Contains pairs (pair_of f)) found sorted moved are.asked;
     shows = All-permutation (λ f. Shows (id_at names f.start) (id_at names f.end) f.kept) found sorted moved are.shows;
@@ -122,14 +133,6 @@ module _ {Shown : Type 0} (Has : LinkOf ℤ → Type 0) (Shows : ℤ → ℤ →
   } where
     any_moved : (P : Found Shown → Type 0) → Any P found → Any P sorted
     any_moved P h = let k = Contains-permutation found sorted h.1 moved (h.0, h.2, h.3) in (k.0, h.1, k.1, k.2, h.4)
-
--- of what is not equal, and what follows of which is not less, the first is less
-less_by_rest : (o p : Ordering) → o ≡ ordering_reverse p → is_eq o ≡ false → is_lt p ≡ false → o ≡ Less
-less_by_rest Less p e differ later = refl
-less_by_rest Equal p e differ later = cc
-less_by_rest Greater Less e differ later = cc
-less_by_rest Greater Equal e differ later = cc
-less_by_rest Greater Greater e differ later = cc
 
 -- what is sorted rises strictly where no two of it compared as equal before
 pub rises_sorted : {X : Type 0} (cmp : X → X → Ordering) → IsTotalOrder cmp → (xs sorted : List X) → AllPairs (λ x y. eq_by_cmp cmp x y ≡ false) xs → IsPermutation xs sorted
@@ -147,7 +150,7 @@ module _ {Shown : Type 0} where
   found_total = then_total (on_total (λ (f : Found Shown). f.start) nat_cmp_total) (on_total (λ (f : Found Shown). f.end) nat_cmp_total)
 
   -- pairs of which one comes before the other don't compare as equal, in either order
-  apart : (a b : Found Shown) → pair_cmp (pair_of a) (pair_of b) ≡ Less → eq_by_cmp found_cmp a b ≡ false
+  pub apart : (a b : Found Shown) → pair_cmp (pair_of a) (pair_of b) ≡ Less → eq_by_cmp found_cmp a b ≡ false
   apart a b less = ⊎_elim (λ e. absurd (not_equal e)) (λ e. e) (cases_Bool (eq_by_cmp found_cmp a b)) where
     tied : pair_cmp (pair_of a) (pair_of b) ≡ ordering_then (nat_cmp a.end b.end) (nat_cmp a.start b.start)
     tied = refl
@@ -172,6 +175,22 @@ pub one_end_pair : (group : List Pair) → HaveEnd group → (i : ℕ) (d : Pair
     → ◌≡◌ {A = Pair} (record { end = (get_or group 0 d).end; start = (get_or group i d).start }) (get_or group i d)
 one_end_pair group one_end zero d inside = refl
 one_end_pair group one_end (suc i) d inside = same_pair _ (get_or group (suc i) d) refl (one_end 0 (suc i) d (omega arith) inside)
+
+-- of pairs with one start, each is that start with its end
+pub one_start_pair : (group : List Pair) (s : ℕ) → All (λ pair. pair.start ≡ s) group → (i : ℕ) (d : Pair) → i < length group
+    → ◌≡◌ {A = Pair} (record { end = (get_or group i d).end; start = s }) (get_or group i d)
+one_start_pair group s one_start i d inside = same_pair _ (get_or group i d) (sym (one_start i d inside)) refl
+
+-- of pairs among some vertices with one start, this is among them
+pub start_below : (group : List Pair) (s size i : ℕ) → All (IsPairAmong size) group → All (λ pair. pair.start ≡ s) group → i < length group → s < size
+start_below group s size i among one_start inside =
+    let none : Pair = record { end = 0; start = 0 } in
+    subst (λ n. n < size) (one_start i none inside) (among i none inside).0
+
+-- and no end is this
+pub start_differs : (group : List Pair) (s size i : ℕ) (d : Pair) → All (IsPairAmong size) group → All (λ pair. pair.start ≡ s) group → i < length group
+    → s ≢ (get_or group i d).end
+start_differs group s size i d among one_start inside same = (among i d inside).2 (one_start i d inside ∙ same)
 
 -- where none are left, all pairs are done
 pub all_done : (pairs done rest : List Pair) → pairs ≡ done ++ rest → length rest ≡ 0 → done ≡ pairs

@@ -1,33 +1,38 @@
 -- What is kept of the walks between two vertices, from a least walk between their numbers and from a label.
-use Rattle.std.proofs.Common.{◌≡◌, ◌≢◌, ℕ, zero, suc, List, [], ◌∷◌, map, refl, sym, ap, subst, arith, ⊎_elim}
-use Rattle.std.specs.Prelude.{◌≤◌, ℤ, All, Contains, Option, Some, None, Result, Ok, Err, IfOk, IfSome, IfNone}
+use Rattle.std.proofs.Common.{◌≢◌, ℕ, zero, List, [], ◌∷◌, map, refl, ap, subst, arith}
+use Rattle.std.specs.Prelude.{ℤ, All, Contains, Option, Some, None, Result, Ok, Err, IfOk, IfSome, IfNone}
 use Rattle.std.specs.Option.{option_map}
 use Rattle.std.specs.Ordering.{nat_cmp}
 use Rattle.std.proofs.lemmas.Option.{IfSome_then}
 use Rattle.std.proofs.lemmas.List.Elements.{All-nil, All-cons, All-contains}
+use Rattle.pgr_outside.proofs.Lists.{Contains-one}
 use Rattle.pgr_walks.specs.declared.link.LinkOf.{LinkOf}
 use Rattle.pgr_walks.specs.declared.label.Label.{Label}
 use Rattle.pgr_walks.specs.Walk.{IsWalk}
 use Rattle.pgr_walks.specs.RouteOrder.{IsLeast}
-use Rattle.pgr_walks.specs.Label.{LeadsTo, IsLabel, AtMost}
+use Rattle.pgr_walks.specs.Label.{LeadsTo, IsLabel}
 use Rattle.pgr_walks.specs.Graph.{IsLinkOf}
+use Rattle.pgr_walks.proofs.LabelOrder.{AtMost-cost}
 use Rattle.pgr_numbers.specs.Names.{IsNumbered, id_at, named}
 use Rattle.pgr_answer.specs.declared.kept.LeastCost.{LeastCost}
 use Rattle.pgr_answer.specs.Costs.{IsLeastCost}
 use Rattle.pgr_answer.specs.Networks.{IsNetwork, IsRouteBetween}
 use Rattle.pgr_answer.specs.Paths.{IsLeastBetween}
 
--- the one element of a list of one
-one_element : {X : Type 0} (x y : X) → Contains (x ∷ []) y → y ≡ x
-one_element x y (zero, inside, is) = sym is
-one_element x y (suc k, inside, is) = absurd (omega arith)
-
 -- to lead to one target is to lead to it
-IsWalk-from_one : {V : Type 0} (Has : LinkOf V → Type 0) (s t : V) (walk : List (LinkOf V)) → LeadsTo Has (t ∷ []) s walk → IsWalk Has s walk t
-IsWalk-from_one Has s t walk leads = subst (λ v. IsWalk Has s walk v) (one_element t leads.target leads.is_target) leads.is_walk
+pub IsWalk-from_one : {V : Type 0} (Has : LinkOf V → Type 0) (s t : V) (walk : List (LinkOf V)) → LeadsTo Has (t ∷ []) s walk → IsWalk Has s walk t
+IsWalk-from_one Has s t walk leads = subst (λ v. IsWalk Has s walk v) (Contains-one t leads.target leads.is_target) leads.is_walk
 
 one-from_IsWalk : {V : Type 0} (Has : LinkOf V → Type 0) (s t : V) (walk : List (LinkOf V)) → IsWalk Has s walk t → LeadsTo Has (t ∷ []) s walk
 one-from_IsWalk Has s t walk is_walk = record { target = t; is_target = (zero, omega arith, refl); is_walk = is_walk }
+
+-- a walk that precedes every other one to a vertex precedes every other one to that target alone
+pub least_to_one : (Has : LinkOf ℕ → Type 0) (s t : ℕ) (route : List (LinkOf ℕ)) → IsLeast nat_cmp (λ walk. IsWalk Has s walk t) route
+    → IsLeast nat_cmp (LeadsTo Has (t ∷ []) s) route
+least_to_one Has s t route is = record {
+  belongs = one-from_IsWalk Has s t route is.belongs;
+  precedes = λ other leads. is.precedes other (IsWalk-from_one Has s t other leads);
+}
 
 -- what follows of each value follows of the one that is found
 pub found_then : {X E : Type 0} (found : Result (Option X) E) {P Q : X → Type 0} → IfOk found (λ o. IfSome o P) → ((x : X) → P x → Q x) → IfOk found (λ o. IfSome o Q)
@@ -40,7 +45,7 @@ All-walk Has P each s [] t is_walk = All-nil P
 All-walk Has P each s (link ∷ rest) t is_walk = All-cons P link rest (each link is_walk.0) (All-walk Has P each link.to rest t is_walk.2)
 
 -- a walk between two vertices that differ has a link
-some_link : {V : Type 0} (Has : LinkOf V → Type 0) (s t : V) (walk : List (LinkOf V)) → s ≢ t → IsWalk Has s walk t → walk ≢ []
+pub some_link : {V : Type 0} (Has : LinkOf V → Type 0) (s t : V) (walk : List (LinkOf V)) → s ≢ t → IsWalk Has s walk t → walk ≢ []
 some_link Has s t [] differ is_walk e = differ is_walk
 some_link Has s t (link ∷ rest) differ is_walk e = absurd cc
 
@@ -58,10 +63,6 @@ route_between links names size ins network s t route differ by_numbers by_ids =
       some = some_link (IsLinkOf size ins) s t route differ is_walk;
     }
 
--- a label that is at most another costs no more
-cost_at_most : (a b : Label) → AtMost a b → a.cost ≤ b.cost
-cost_at_most a b at_most = ⊎_elim (λ less. omega arith) (λ same. omega (arith, same.0)) at_most
-
 -- the cost of a label
 abbrev pub cost_of_label : Label → LeastCost
 cost_of_label label = record { cost = label.cost }
@@ -74,7 +75,7 @@ module _ (Has : LinkOf ℤ → Type 0) (s t : ℤ) where
     walk = least.walk;
     is_walk = IsWalk-from_one Has s t least.walk least.leads;
     costs = ap (λ l. l.cost) least.label_is;
-    least = λ other is_walk. cost_at_most label _ (least.least other (one-from_IsWalk Has s t other is_walk));
+    least = λ other is_walk. AtMost-cost label _ (least.least other (one-from_IsWalk Has s t other is_walk));
   }
 
   -- where there is no label no walk leads there

@@ -1,5 +1,5 @@
 -- Where the contents of all files are known, they are one list: so the rows that answer a command are one table.
-use Rattle.std.proofs.Common.{◌≡◌, ◌≢◌, ℕ, List, [], ◌∷◌, sym, ap, subst, ◌∙◌, refl, Option, Some, None, map}
+use Rattle.std.proofs.Common.{◌≡◌, ◌≢◌, ℕ, List, [], ◌∷◌, sym, subst, ◌∙◌, refl, Option, Some, None, map}
 use Rattle.std.specs.Prelude.{All, IfSome, IsSome}
 use Rattle.std.proofs.lemmas.List.Elements.{All-head, All-tail}
 use Rattle.pgr_words.specs.declared.command.Command.{Command}
@@ -7,8 +7,9 @@ use Rattle.pgr_words.specs.declared.function.Function.TheVariants as function
 use Rattle.pgr_rows.specs.declared.rows.Rows.{Rows}
 use Rattle.pgr_answer.specs.Files.{File, Content, files_of, IsPossible, AreAccepted}
 use Rattle.pgr_answer.specs.Contents.{tables_of}
-use Rattle.pgr_answer.specs.Allowed.{IsAllowed, AnswersCommand}
-use Rattle.pgr_answer.proofs.OneTable.{one_is_allowed}
+use Rattle.pgr_answer.specs.declared.answered.Note.{Note}
+use Rattle.pgr_answer.specs.Allowed.{IsAllowed, AreNotesOver, AnswersCommand}
+use Rattle.pgr_answer.proofs.OneTable.{one_is_allowed, one_list_of_notes}
 
 -- possible bytes of one known content are the same
 one_content : (content : Option (List ℕ)) (bytes other : List ℕ) → IsSome content → IfSome content (λ is. bytes ≡ is) → IfSome content (λ is. other ≡ is) → bytes ≡ other
@@ -46,10 +47,15 @@ module _ (known : List ℕ → Option (List ℕ)) where
   one_are_contents files contents others all are also = one_by_files contents others (are.of_files ∙ sym also.of_files)
       (subst (All (λ file. IsSome (known file.name))) (sym are.of_files) all) are.possible also.possible
 
--- the rows that answer a command over known contents are one table
-pub one_answers : (command : Command) (known : List ℕ → Option (List ℕ)) (rows other : Rows) → command.function ≢ function.EdmondsKarp
-    → All (λ file. IsSome (known file.name)) (files_of command) → AnswersCommand command known rows → AnswersCommand command known other → rows ≡ other
-one_answers command known rows other is_other all answers also =
-    let same = one_are_contents known (files_of command) answers.contents also.contents all answers.accepted also.accepted in
-    one_is_allowed command (tables_of answers.contents) rows other is_other answers.allowed
-    (subst (λ contents. IsAllowed command (tables_of contents) other) (sym same) also.allowed)
+-- the rows that answer a command over known contents are one table, and the notes are one list
+pub one_answers : (command : Command) (known : List ℕ → Option (List ℕ)) (rows other : Rows) (notes others : List Note)
+    → All (λ file. IsSome (known file.name)) (files_of command)
+    → AnswersCommand command known rows notes → AnswersCommand command known other others
+    → (command.function ≢ function.EdmondsKarp → rows ≡ other) × (notes ≡ others)
+one_answers command known rows other notes others all answers also =
+    let same = one_are_contents known (files_of command) answers.contents also.contents all answers.accepted also.accepted in (
+      λ is_other. one_is_allowed command (tables_of answers.contents) rows other is_other answers.allowed
+          (subst (λ contents. IsAllowed command (tables_of contents) other) (sym same) also.allowed),
+      one_list_of_notes command (tables_of answers.contents) notes others answers.noted
+          (subst (λ contents. AreNotesOver command (tables_of contents) others) (sym same) also.noted),
+    )

@@ -1,19 +1,18 @@
 -- The first K routes that are found for the pairs of a network, as a table over the links that it has.
-use Rattle.std.proofs.Common.{◌≡◌, ◌≢◌, ℕ, ℤ, ◌+◌, ◌<◌, ◌≤◌, List, [], ◌∷◌, ◌++◌, length, get_or, take, map, sym, ap, subst, ◌∙◌, refl, arith, Less}
+use Rattle.std.proofs.Common.{◌≡◌, ◌≢◌, ℕ, ℤ, ◌+◌, ◌<◌, ◌≤◌, List, [], ◌∷◌, ◌++◌, length, get_or, take, map, sym, ap, subst, ◌∙◌, arith}
 use Rattle.std.specs.Prelude.{◌↔◌, All, Any, Contains}
-use Rattle.std.specs.List.{AllPairs}
 use Rattle.std.specs.List.Sorted.{IsPermutation}
 use Rattle.std.specs.Ordering.{int_cmp, nat_cmp}
 use Rattle.std.proofs.lemmas.List.{get_or-map, length-map, map-append, take_more}
-use Rattle.std.proofs.lemmas.List.Elements.{All-map, All-weaker, All-contains_itself, Contains-get_or}
+use Rattle.std.proofs.lemmas.List.Elements.{All-weaker, All-contains_itself, Contains-get_or}
 use Rattle.std.proofs.lemmas.List.Sorted.{All-permutation, Contains-permutation}
 use Rattle.pgr_outside.specs.Lists.{IsStrictlyRising}
+use Rattle.pgr_outside.proofs.Lists.{Contains-map, Contains-from_map}
 use Rattle.pgr_walks.specs.declared.link.LinkOf.{LinkOf}
 use Rattle.pgr_walks.specs.Walk.{IsWalk, IsVertex, IsLooplessRoute}
 use Rattle.pgr_numbers.specs.Names.{AreEnds, IsNumbered, id_at, named}
 use Rattle.pgr_ksp.specs.Routes.{AreAll, AreFirst, AreFirstK}
 use Rattle.pgr_rows.specs.declared.rows.KspRow.{KspRow}
-use Rattle.pgr_rows.specs.declared.rows.Rows.{Rows}
 use Rattle.pgr_rows.specs.declared.rows.Rows.TheVariants.{Ksp}
 use Rattle.pgr_answer.specs.declared.pair.Pair.{Pair}
 use Rattle.pgr_answer.specs.declared.found.Found.{Found}
@@ -22,10 +21,8 @@ use Rattle.pgr_answer.specs.Answers.{Answer, AreAnswers}
 use Rattle.pgr_answer.specs.Gathering.{pair_cmp, IsNumberedPair}
 use Rattle.pgr_answer.specs.Finding.{pair_of, found_cmp, AreFound, AreRoutesOf, RisesByPair, HasNames}
 use Rattle.pgr_answer.specs.Found.{seen, answer_of, routes_found}
-use Rattle.pgr_answer.specs.Ksp.{AreFirstRoutes, IsKspTable, ksp_table}
+use Rattle.pgr_answer.specs.Ksp.{IsKspTable, ksp_table}
 use Rattle.pgr_answer.proofs.AnswersAlong.{Any-map, answers-seen, answers-over}
-use Rattle.pgr_answer.proofs.ClassesById.{AreNamed, mapped, image}
-use Rattle.pgr_answer.proofs.RoutesById.{first_by_ids, first_numbered}
 use Rattle.pgr_answer.proofs.TablesFound.{map-both, answers_found, some_of_each}
 
 -- what is found for pairs in their order, sorted
@@ -34,13 +31,13 @@ pub routes_moved : (Has : LinkOf ℕ → Type 0) (k : ℕ) (pairs : List Pair) (
     → All (λ f. AreFirstK nat_cmp Has f.start f.end k f.kept) found → AreRoutesOf Has k pairs sorted
 routes_moved Has k pairs found sorted moved are first = record {
   asked = All-permutation (λ (f : Found (List (List (LinkOf ℕ)))). Contains pairs (pair_of f)) found sorted moved
-      (All-weaker (Contains found) (λ f. Contains pairs (pair_of f)) (λ f has. subst (λ ps. Contains ps (pair_of f)) are (image pair_of found f has)) found
+      (All-weaker (Contains found) (λ f. Contains pairs (pair_of f)) (λ f has. subst (λ ps. Contains ps (pair_of f)) are (Contains-map pair_of found f has)) found
       (All-contains_itself found));
   first = All-permutation (λ (f : Found (List (List (LinkOf ℕ)))). AreFirstK nat_cmp Has f.start f.end k f.kept) found sorted moved first;
   every = λ pair has.
-      let of_pair = mapped pair_of found pair (subst (λ ps. Contains ps pair) (sym are) has) in
-      let place = Contains-permutation found sorted of_pair.0 moved of_pair.1.0 in
-      (place.0, of_pair.0, place.1, place.2, of_pair.1.1);
+      let of_pair = Contains-from_map pair_of found pair (subst (λ ps. Contains ps pair) (sym are) has) in
+      let place = Contains-permutation found sorted of_pair.0 moved of_pair.1 in
+      (place.0, of_pair.0, place.1, place.2, sym of_pair.2);
 }
 
 -- it rises as its pairs do

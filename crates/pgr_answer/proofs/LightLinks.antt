@@ -1,7 +1,7 @@
 -- Links of a table as a contraction asks for them: the edges are ids, an undirected link has its opposite, and together they weigh at most what the rows do,
 -- since of two opposite links of the undirected graph one counts, and that is one way along its row.
-use Rattle.std.proofs.Common.{◌≡◌, ◌⊎◌, inl, inr, ⊎_elim, ◌↔◌, ℕ, zero, suc, ◌+◌, ◌<◌, ◌≤◌, ℤ, pos, negsuc, Bool, true, false, not, if◌then◌else◌, List, [], ◌∷◌, ◌++◌, length, refl, sym, ap, subst, ◌∙◌, arith, Ordering, Less, Equal, Greater}
-use Rattle.std.specs.Prelude.{slice_index_or, Contains}
+use Rattle.std.proofs.Common.{◌≡◌, ◌⊎◌, inl, inr, ⊎_elim, ◌↔◌, ℕ, ◌+◌, ◌≤◌, ℤ, pos, negsuc, Bool, true, false, not, if◌then◌else◌, List, [], ◌∷◌, ◌++◌, refl, sym, ap, subst, ◌∙◌, arith, Ordering, Less, Equal, Greater}
+use Rattle.std.specs.Prelude.{Contains}
 use Rattle.std.specs.Ordering.{int_cmp, is_gt, ordering_reverse}
 use Rattle.std.proofs.lemmas.Cmp.{int_cmp_total}
 use Rattle.std.proofs.lemmas.List.Elements.{All-contains}
@@ -12,6 +12,8 @@ use Rattle.pgr_walks.specs.LinkOrders.{int_tie}
 use Rattle.pgr_walks.specs.Walk.{cost_of}
 use Rattle.pgr_walks.specs.Reaches.{turned}
 use Rattle.pgr_walks.proofs.Repeats.{Among, Apart, Apart-from_IsWithoutRepeats}
+use Rattle.pgr_walks.proofs.Membership.{Among-left, Among-right, Among-from_Contains, Contains-from_Among}
+use Rattle.pgr_walks.proofs.BackWalks.{cost_of-append}
 use Rattle.pgr_table.specs.declared.row.EdgeRow.{EdgeRow}
 use Rattle.pgr_table.specs.Rows.{counted, greatest}
 use Rattle.pgr_table.specs.Edges.{HasIds, AreAccepted, costs_of, sum_of_costs}
@@ -84,10 +86,6 @@ abbrev links_table : Bool → List EdgeRow → List (LinkOf ℤ)
 links_table directed [] = []
 links_table directed (row ∷ rows) = links_row directed row ++ links_table directed rows
 
-cost_of-append : (xs ys : List (LinkOf ℤ)) → cost_of (xs ++ ys) ≡ cost_of xs + cost_of ys
-cost_of-append [] ys = omega arith
-cost_of-append (x ∷ xs) ys = let more = cost_of-append xs ys in omega (arith, more)
-
 along_cost : (row : EdgeRow) (direction : Direction) (n : ℕ) → (link_along row direction n).cost ≡ n
 along_cost row Forward n = refl
 along_cost row Backward n = refl
@@ -118,28 +116,6 @@ table_cost directed (row ∷ rows) =
     let more = table_cost directed rows in
     let sums = sum_by-cons costs_of row rows in
     cost_of-append (links_row directed row) (links_table directed rows) ∙ omega (arith, first, more, sums)
-
-Among-left : {X : Type 0} (x : X) (xs ys : List X) → Among x xs → Among x (xs ++ ys)
-Among-left x [] ys h = absurd h
-Among-left x (z ∷ xs) ys (inl e) = inl e
-Among-left x (z ∷ xs) ys (inr h) = inr (Among-left x xs ys h)
-
-Among-right : {X : Type 0} (x : X) (xs ys : List X) → Among x ys → Among x (xs ++ ys)
-Among-right x [] ys h = h
-Among-right x (z ∷ xs) ys h = inr (Among-right x xs ys h)
-
-Among-from_Contains : {X : Type 0} (xs : List X) (x : X) → Contains xs x → Among x xs
-Among-from_Contains {X} xs x h = at xs h.0 h.1 h.2
-  where
-    at : (xs : List X) (k : ℕ) → k < length xs → slice_index_or xs k x ≡ x → Among x xs
-    at [] k below e = absurd (omega arith)
-    at (y ∷ ys) zero below e = inl e
-    at (y ∷ ys) (suc k) below e = inr (at ys k (omega arith) e)
-
-Contains-from_Among : {X : Type 0} (xs : List X) (x : X) → Among x xs → Contains xs x
-Contains-from_Among [] x h = absurd h
-Contains-from_Among (y ∷ ys) x (inl e) = (0, omega arith, e)
-Contains-from_Among (y ∷ ys) x (inr h) = let c = Contains-from_Among ys x h in (suc c.0, omega (arith, c.1), c.2)
 
 -- the link of a cost stands there
 stands : (along : ℕ → LinkOf ℤ) (cost : ℤ) (link : LinkOf ℤ) → cost ≡ pos link.cost → link ≡ along link.cost → Among link (there along cost)
@@ -203,8 +179,8 @@ module _ (rows : List EdgeRow) (directed : Bool) (links : List (LinkOf ℤ)) (ac
   pub table_is_light : IsWithoutRepeats links → weight directed links ≤ greatest
   table_is_light once =
       let below = weight_below directed links (links_table directed rows) (Apart-from_IsWithoutRepeats links once)
-      (λ link among is_counted. let (k, row, inside, at, gives) = (are link).0 (Contains-from_Among links link among) in
-      table_among directed rows link row (Among-from_Contains rows row (k, inside, at)) (counted_among directed row link gives is_counted)) in
+      (λ link among is_counted. let (k, row, inside, at, gives) = (are link).0 (Contains-from_Among link links among) in
+      table_among directed rows link row (Among-from_Contains row rows (k, inside, at)) (counted_among directed row link gives is_counted)) in
       let sum = table_cost directed rows in
       omega (arith, below, sum, accepted.sum)
 

@@ -7,23 +7,17 @@ use Rattle.std.proofs.lemmas.Cmp.{int_cmp_total, tied_itself}
 use Rattle.std.proofs.lemmas.Option.{slice_get-get_or, same_Some}
 use Rattle.pgr_outside.specs.Lists.{IsWithoutRepeats, IsStrictlyRising}
 use Rattle.pgr_walks.specs.declared.link.LinkOf.{LinkOf}
-use Rattle.pgr_walks.specs.Walk.{IsWalk}
 use Rattle.pgr_walks.specs.Link.{link_cmp}
 use Rattle.pgr_walks.specs.LinkOrders.{link_total}
 use Rattle.pgr_walks.specs.Graph.{Fits}
-
--- a walk over a set of links is one over a set that has them
-pub IsWalk-along : {V : Type 0} (Has More : LinkOf V → Type 0) → ((link : LinkOf V) → Has link → More link) → (s : V) (walk : List (LinkOf V)) (t : V) → IsWalk Has s walk t
-    → IsWalk More s walk t
-IsWalk-along Has More has_too s [] t is_walk = is_walk
-IsWalk-along Has More has_too s (link ∷ rest) t is_walk = (has_too link is_walk.0, is_walk.1, IsWalk-along Has More has_too link.to rest t is_walk.2)
+use Rattle.pgr_route.proofs.TightWalks.{walk_wider}
 
 -- a set of links fits where one fits that has them
 pub Fits-along : {V : Type 0} (Has More : LinkOf V → Type 0) → ((link : LinkOf V) → Has link → More link) → Fits More → Fits Has
 Fits-along Has More has_too fits = record {
   links = λ link has. fits.links link (has_too link has);
   routes = λ s t walk route. fits.routes s t walk (record {
-    is_walk = IsWalk-along Has More has_too s walk t route.is_walk;
+    is_walk = walk_wider Has More has_too s walk t route.is_walk;
     ends_differ = route.ends_differ;
     loopless =
         route.loopless;

@@ -1,8 +1,9 @@
 -- One table of what a contraction leaves at most: the links are one list, the run ends in one state, and that is shown in one way.
-use Rattle.std.proofs.Common.{◌≡◌, ℕ, suc, ℤ, Bool, List, [], ◌∷◌, refl, sym, ap, ◌∙◌, subst, arith}
+use Rattle.std.proofs.Common.{◌≡◌, ℕ, suc, ℤ, Bool, List, [], ◌∷◌, refl, sym, ap, ◌∙◌, subst}
 use Rattle.std.specs.Prelude.{Contains}
 use Rattle.std.specs.Ordering.{int_cmp}
 use Rattle.std.proofs.lemmas.Cmp.{int_cmp_total}
+use Rattle.pgr_outside.proofs.Lists.{Contains-here, Contains-later}
 use Rattle.pgr_walks.specs.declared.link.LinkOf.{LinkOf}
 use Rattle.pgr_walks.specs.Link.{link_cmp}
 use Rattle.pgr_walks.specs.LinkOrders.{link_total}
@@ -33,13 +34,6 @@ one_list_of_links edges directed links others are also =
     rising_is_one (link_cmp int_cmp) (link_total int_cmp int_cmp_total) links others are.rise also.rise
     (λ link has. (also.exactly link).1 ((are.exactly link).0 has)) (λ link has. (are.exactly link).1 ((also.exactly link).0 has))
 
--- the first of a list is contained, and what is in the rest too
-here : {X : Type 0} (x : X) (xs : List X) → Contains (x ∷ xs) x
-here x xs = (0, omega arith, refl)
-
-later : {X : Type 0} (x : X) (xs : List X) (y : X) → Contains xs y → Contains (x ∷ xs) y
-later x xs y (k, within, is) = (suc k, omega arith, is)
-
 abbrev HoldAll : (ℤ → List ℤ) → List Kept → Type 0
 HoldAll inside vertices = (kept : Kept) → Contains vertices kept → Lists (inside kept.node) kept.inside
 
@@ -52,10 +46,10 @@ one_list_of_vertices inside (kept ∷ vertices) [] same holds also = absurd cc
 one_list_of_vertices inside (kept ∷ vertices) (other ∷ others) same holds also =
     let node : kept.node ≡ other.node = cc in
     let rest : nodes_of vertices ≡ nodes_of others = cc in
-    let its : Lists (inside other.node) kept.inside = subst (λ v. Lists (inside v) kept.inside) node (holds kept (here kept vertices)) in
-    let held : kept.inside ≡ other.inside = one_list (inside other.node) kept.inside other.inside its (also other (here other others)) in
+    let its : Lists (inside other.node) kept.inside = subst (λ v. Lists (inside v) kept.inside) node (holds kept (Contains-here kept vertices)) in
+    let held : kept.inside ≡ other.inside = one_list (inside other.node) kept.inside other.inside its (also other (Contains-here other others)) in
     let first : kept ≡ other = λ i. record { node = node i; inside = held i } in
-    let more = one_list_of_vertices inside vertices others rest (λ k has. holds k (later kept vertices k has)) (λ k has. also k (later other others k has)) in
+    let more = one_list_of_vertices inside vertices others rest (λ k has. holds k (Contains-later kept vertices k has)) (λ k has. also k (Contains-later other others k has)) in
     ap (λ (k : Kept). k ∷ vertices) first ∙ ap (λ (ks : List Kept). other ∷ ks) more
 
 -- a shortcut is shown in one way

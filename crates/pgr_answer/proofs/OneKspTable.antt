@@ -1,6 +1,6 @@
 -- One table of the first K routes at most is allowed: of each pair there is one list of them.
-use Rattle.std.proofs.Common.{◌≡◌, ℕ, ℤ, List, sym, ap, ◌∙◌, subst, Ordering}
-use Rattle.std.specs.Prelude.{Any, Contains}
+use Rattle.std.proofs.Common.{◌≡◌, ℕ, ℤ, List, sym, ap, ◌∙◌, subst}
+use Rattle.std.specs.Prelude.{Contains}
 use Rattle.std.specs.Ordering.{int_cmp}
 use Rattle.std.specs.Cmp.{IsTotalOrder}
 use Rattle.std.proofs.lemmas.Cmp.{int_cmp_total, on_total, then_total}
@@ -17,10 +17,11 @@ use Rattle.pgr_answer.specs.Ksp.{AreFirstRoutes, IsKspTable, ksp_table}
 use Rattle.pgr_answer.proofs.SameElements.{rising_is_one}
 
 -- the order of answers is total
-answer_total : {Shown : Type 0} → IsTotalOrder (answer_cmp {Shown = Shown})
+pub answer_total : {Shown : Type 0} → IsTotalOrder (answer_cmp {Shown = Shown})
 answer_total {Shown} = then_total (on_total (λ (answer : Answer Shown). answer.start) int_cmp_total) (on_total (λ (answer : Answer Shown). answer.end) int_cmp_total)
 
-same_answer : {Shown : Type 0} (a b : Answer Shown) → a.start ≡ b.start → a.end ≡ b.end → a.shown ≡ b.shown → a ≡ b
+-- answers with the same parts are the same
+pub same_answer : {Shown : Type 0} (a b : Answer Shown) → a.start ≡ b.start → a.end ≡ b.end → a.shown ≡ b.shown → a ≡ b
 same_answer a b start end shown = λ i. record { start = start i; end = end i; shown = shown i }
 
 module _ (Has : LinkOf ℤ → Type 0) (Asked : ℤ → ℤ → Type 0) (k : ℕ) where

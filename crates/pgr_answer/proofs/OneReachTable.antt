@@ -10,6 +10,7 @@ use Rattle.pgr_walks.specs.declared.label.Label.{Label}
 use Rattle.pgr_walks.specs.Label.{IsLeastLabelFrom, AtMost}
 use Rattle.pgr_walks.specs.Link.{entry_cmp}
 use Rattle.pgr_walks.specs.LinkOrders.{int_tie, nat_tie, then_tie, same_link, entry_total}
+use Rattle.pgr_walks.proofs.LabelOrder.{AtMost-both}
 use Rattle.pgr_rows.specs.declared.rows.Rows.{Rows}
 use Rattle.pgr_rows.specs.declared.rows.Rows.TheVariants.{Reaches}
 use Rattle.pgr_reach.specs.declared.reach.ReachedOf.{ReachedOf}
@@ -18,13 +19,7 @@ use Rattle.pgr_reach.specs.Within.{AreWithin, IsRowWithin, IsRootRow, IsTreeRow,
 use Rattle.pgr_reach.specs.Equicost.{AreClosest, with_kept}
 use Rattle.pgr_answer.specs.DrivingDistance.{Rooted, AreReaches, AreShown, IsReachTable, reach_table}
 use Rattle.pgr_answer.proofs.SameElements.{rising_is_one}
-
--- two labels that are at most each other are the same
-at_most_both : (a b : Label) → AtMost a b → AtMost b a → a ≡ b
-at_most_both a b (inl h) (inl k) = absurd (omega arith)
-at_most_both a b (inl h) (inr k) = absurd (omega (arith, k.0))
-at_most_both a b (inr h) (inl k) = absurd (omega (arith, h.0))
-at_most_both a b (inr h) (inr k) = let hops : a.hops ≡ b.hops = omega (arith, h.1, k.1) in λ i. record { cost = h.0 i; hops = hops i }
+use Rattle.pgr_answer.proofs.OneFlowTables.{same_test}
 
 -- neither of two that compare before the other: they are equal
 not_before : (cmp : LinkOf ℤ → LinkOf ℤ → Ordering) → IsTotalOrder cmp → (a b : LinkOf ℤ) → (cmp a b ≡ Less → ⊥) → (cmp b a ≡ Less → ⊥) → cmp a b ≡ Equal
@@ -42,7 +37,7 @@ row_total = then_total (on_total (λ (row : ReachedOf ℤ). row.label.cost) nat_
 module _ (Has : LinkOf ℤ → Type 0) (root : ℤ) where
   one_label : (v : ℤ) (a b : Label) → IsLeastLabelFrom Has root v a → IsLeastLabelFrom Has root v b → a ≡ b
   one_label v a b is_a is_b =
-      at_most_both a b (subst (AtMost a) is_b.label_is (is_a.least is_b.walk is_b.is_walk)) (subst (AtMost b) is_a.label_is (is_b.least is_a.walk is_a.is_walk))
+      AtMost-both a b (subst (AtMost a) is_b.label_is (is_a.least is_b.walk is_b.is_walk)) (subst (AtMost b) is_a.label_is (is_b.least is_a.walk is_a.is_walk))
 
   -- one tree link
   one_tree : (v : ℤ) (a b : LinkOf ℤ) → IsTreeLink int_cmp Has root v a → IsTreeLink int_cmp Has root v b → a ≡ b
@@ -118,12 +113,6 @@ same_filter keeps other (row ∷ rows) same =
     by false false e rest = rest
     by true false e rest = absurd cc
     by false true e rest = absurd cc
-
--- tests are the same where they are true for the same reason
-same_test : (a b : Bool) → (a ≡ true → b ≡ true) → (b ≡ true → a ≡ true) → a ≡ b
-same_test true b into back = sym (into refl)
-same_test false true into back = back refl
-same_test false false into back = refl
 
 -- one choice of closest rows
 one_closest : (lists shown others : List (Rooted ℤ)) → AreClosest int_cmp lists shown → AreClosest int_cmp lists others → shown ≡ others

@@ -2,7 +2,6 @@
 use Rattle.std.proofs.Common.{◌≡◌, ◌≢◌, Bool, ℕ, ℤ, List, sym, ap, ◌∙◌, subst, arith, map, Ordering, Less, Equal, Greater, refl, true, false}
 use Rattle.std.specs.Prelude.{Any, Contains}
 use Rattle.std.specs.Ordering.{int_cmp, ordering_reverse}
-use Rattle.std.specs.Cmp.{IsTotalOrder}
 use Rattle.std.proofs.lemmas.Cmp.{int_cmp_total, on_total, then_total}
 use Rattle.std.proofs.lemmas.List.Elements.{All-contains}
 use Rattle.pgr_walks.specs.declared.link.LinkOf.{LinkOf}
@@ -18,34 +17,30 @@ use Rattle.pgr_rows.specs.declared.rows.Rows.TheVariants.{Paths, Parts, Costs}
 use Rattle.pgr_parts.specs.Classes.{Connected, StronglyConnected, IsClassName}
 use Rattle.pgr_answer.specs.Components.{Member, member_cmp, AreMembers, IsPartTable, part_rows}
 use Rattle.pgr_answer.specs.Pairs.{IsAnswerable, IsAsked, IsAskedOfMatrix}
-use Rattle.pgr_answer.specs.Answers.{Answer, answer_cmp, AreAnswers}
+use Rattle.pgr_answer.specs.Answers.{Answer, answer_cmp, AreAnswersBy, walks_over}
 use Rattle.pgr_answer.specs.Costs.{IsLeastCost}
 use Rattle.pgr_answer.specs.CostTables.{IsCostTable, cost_row}
 use Rattle.pgr_answer.specs.Paths.{IsLeastBetween, IsPathTable, path_table}
 use Rattle.pgr_points.specs.Pointed.{IsPointed}
+use Rattle.pgr_turns.specs.Restrictions.{IsAllowedWalk}
+use Rattle.pgr_answer.specs.Trsp.{IsAllowedTable, IsLeastAllowed}
 use Rattle.pgr_answer.specs.WithPoints.{IsShownTable, shown_table}
 use Rattle.pgr_answer.specs.declared.tables.Tables.{Tables}
-use Rattle.pgr_answer.specs.Allowed.{IsAllowed, IsAllowedFor}
+use Rattle.pgr_answer.specs.declared.answered.Note.{Note}
+use Rattle.pgr_answer.specs.Allowed.{IsAllowed, IsAllowedFor, AreNotesFor, AreNotesOver}
+use Rattle.pgr_answer.proofs.NoteLemmas.{one_notes}
 use Rattle.pgr_answer.proofs.SameElements.{rising_is_one}
 use Rattle.pgr_answer.proofs.BlockTables.{one_class_table, one_point_table, one_bridge_table}
 use Rattle.pgr_answer.proofs.OneReachTable.{one_reach_table}
-use Rattle.pgr_answer.proofs.OneKspTable.{one_ksp_table}
+use Rattle.pgr_answer.proofs.OneKspTable.{answer_total, same_answer, one_ksp_table}
 use Rattle.pgr_answer.proofs.OneContraction.{one_contraction}
 use Rattle.pgr_answer.proofs.OneFlowTables.{one_value_table, one_cut_table}
 
--- the order of answers is total
-answer_total : {Shown : Type 0} → IsTotalOrder (answer_cmp {Shown = Shown})
-answer_total {Shown} = then_total (on_total (λ (answer : Answer Shown). answer.start) int_cmp_total) (on_total (λ (answer : Answer Shown). answer.end) int_cmp_total)
-
--- answers with the same parts are the same
-same_answer : {Shown : Type 0} (a b : Answer Shown) → a.start ≡ b.start → a.end ≡ b.end → a.shown ≡ b.shown → a ≡ b
-same_answer a b start end shown = λ i. record { start = start i; end = end i; shown = shown i }
-
-module _ {Shown : Type 0} (Has : LinkOf ℤ → Type 0) (Asked : ℤ → ℤ → Type 0) (Shows : ℤ → ℤ → Shown → Type 0)
-    (walk_of : (s t : ℤ) (shown : Shown) → Shows s t shown → (walk : List (LinkOf ℤ)) × IsWalk Has s walk t)
+module _ {Shown : Type 0} {Leads : ℤ → ℤ → List (LinkOf ℤ) → Type 0} (Has : LinkOf ℤ → Type 0) (Asked : ℤ → ℤ → Type 0) (Shows : ℤ → ℤ → Shown → Type 0)
+    (walk_of : (s t : ℤ) (shown : Shown) → Shows s t shown → (walk : List (LinkOf ℤ)) × Leads s t walk)
     (one : (s t : ℤ) (shown other : Shown) → Shows s t shown → Shows s t other → shown ≡ other) where
   -- the answer to a pair that another one answers too is that one
-  same_of_pair : (answers : List (Answer Shown)) → AreAnswers Has Asked Shows answers → (a : Answer Shown) → Shows a.start a.end a.shown
+  same_of_pair : (answers : List (Answer Shown)) → AreAnswersBy Has Leads Asked Shows answers → (a : Answer Shown) → Shows a.start a.end a.shown
       → Any (λ answer. (answer.start ≡ a.start) × (answer.end ≡ a.end)) answers → Contains answers a
   same_of_pair answers are a shows (k, b, within, is, ends) =
       let shows_b = All-contains (λ answer. Shows answer.start answer.end answer.shown) answers b are.shows (k, within, is) in
@@ -55,7 +50,7 @@ module _ {Shown : Type 0} (Has : LinkOf ℤ → Type 0) (Asked : ℤ → ℤ →
       subst (Contains answers) same (k, within, is)
 
   -- what is an answer of the one list is one of the other
-  stands : (answers others : List (Answer Shown)) → AreAnswers Has Asked Shows answers → AreAnswers Has Asked Shows others → (a : Answer Shown) → Contains answers a
+  stands : (answers others : List (Answer Shown)) → AreAnswersBy Has Leads Asked Shows answers → AreAnswersBy Has Leads Asked Shows others → (a : Answer Shown) → Contains answers a
       → Contains others a
   stands answers others are also a among =
       let asked = All-contains (λ answer. Asked answer.start answer.end) answers a are.asked among in
@@ -65,7 +60,7 @@ module _ {Shown : Type 0} (Has : LinkOf ℤ → Type 0) (Asked : ℤ → ℤ →
       same_of_pair others also a shows (also.every a.start a.end walk.0 asked answerable walk.1)
 
   -- the answers are one list
-  answers_are_one : (answers others : List (Answer Shown)) → AreAnswers Has Asked Shows answers → AreAnswers Has Asked Shows others → answers ≡ others
+  answers_are_one : (answers others : List (Answer Shown)) → AreAnswersBy Has Leads Asked Shows answers → AreAnswersBy Has Leads Asked Shows others → answers ≡ others
   answers_are_one answers others are also = rising_is_one answer_cmp answer_total answers others are.rise also.rise (stands answers others are also)
       (stands others answers also are)
 
@@ -77,21 +72,29 @@ module _ (Has : LinkOf ℤ → Type 0) (Asked : ℤ → ℤ → Type 0) where
   -- one table of paths
   one_path_table : (rows other : Rows) → IsPathTable Has Asked rows → IsPathTable Has Asked other → rows ≡ other
   one_path_table rows other (answers, are, rows_are) (others, also, other_are) =
-      let same = answers_are_one Has Asked (IsLeastBetween Has) (λ s t walk least. (walk, least.belongs))
+      let same = answers_are_one {Leads = walks_over Has} Has Asked (IsLeastBetween Has) (λ s t walk least. (walk, least.belongs))
       (λ s t. least_is_one int_cmp int_cmp_total int_tie (λ walk. IsWalk Has s walk t)) answers others are also in
       rows_are ∙ ap (λ a. Paths (path_table a)) same ∙ sym other_are
 
   -- the same, shown with details or without
   one_shown_table : (details : Bool) (rows other : Rows) → IsShownTable Has Asked details rows → IsShownTable Has Asked details other → rows ≡ other
   one_shown_table details rows other (answers, are, rows_are) (others, also, other_are) =
-      let same = answers_are_one Has Asked (IsLeastBetween Has) (λ s t walk least. (walk, least.belongs))
+      let same = answers_are_one {Leads = walks_over Has} Has Asked (IsLeastBetween Has) (λ s t walk least. (walk, least.belongs))
       (λ s t. least_is_one int_cmp int_cmp_total int_tie (λ walk. IsWalk Has s walk t)) answers others are also in
       rows_are ∙ ap (λ a. Paths (shown_table details a)) same ∙ sym other_are
+
+  -- one table of paths that meet no restriction
+  one_allowed_table : (restrictions : List (List ℤ)) (rows other : Rows) → IsAllowedTable Has restrictions Asked rows → IsAllowedTable Has restrictions Asked other → rows ≡ other
+  one_allowed_table restrictions rows other (answers, are, rows_are) (others, also, other_are) =
+      let same = answers_are_one {Leads = IsAllowedWalk Has restrictions} Has Asked (IsLeastAllowed Has restrictions) (λ s t walk least. (walk, least.belongs))
+      (λ s t. least_is_one int_cmp int_cmp_total int_tie (IsAllowedWalk Has restrictions s t)) answers others are also in
+      rows_are ∙ ap (λ a. Paths (path_table a)) same ∙ sym other_are
 
   -- one table of costs
   one_cost_table : (rows other : Rows) → IsCostTable Has Asked rows → IsCostTable Has Asked other → rows ≡ other
   one_cost_table rows other (answers, are, rows_are) (others, also, other_are) =
-      let same = answers_are_one Has Asked (IsLeastCost Has) (λ s t cost least. (least.walk, least.is_walk)) (one_least_cost Has) answers others are also in
+      let same = answers_are_one {Leads = walks_over Has} Has Asked (IsLeastCost Has) (λ s t cost least. (least.walk, least.is_walk)) (one_least_cost Has) answers others are also
+      in
       rows_are ∙ ap (λ a. Costs (map cost_row a)) same ∙ sym other_are
 
 -- two names of one class are the same
@@ -148,6 +151,9 @@ one_for function.DijkstraCostMatrix command tables = one_cost_table (IsLinkOfTab
 one_for function.DrivingDistance command tables = one_reach_table (IsLinkOfTable tables.edges command.directed) command.starts command.distance command.equicost
 one_for function.WithPoints command tables =
     one_shown_table (IsPointed tables.edges tables.points command.driving_side command.directed) (IsAsked command.starts command.ends tables.combinations) command.details
+one_for function.AStar command tables = one_path_table (IsLinkOfTable tables.edges command.directed) (IsAsked command.starts command.ends tables.combinations)
+one_for function.Trsp command tables =
+    one_allowed_table (IsLinkOfTable tables.edges command.directed) (IsAsked command.starts command.ends tables.combinations) tables.restrictions
 one_for function.Ksp command tables = one_ksp_table (IsLinkOfTable tables.edges command.directed) (IsAsked command.starts command.ends tables.combinations) command.k
 one_for function.Contraction command tables = one_contraction command tables
 one_for function.MaxFlow command tables = one_value_table command tables
@@ -164,3 +170,12 @@ pub one_is_allowed : (command : Command) (tables : Tables) (rows other : Rows) �
     → IsAllowed command tables rows → IsAllowed command tables other → rows ≡ other
 one_is_allowed command tables rows other is_other are also =
     for_others command.function (rows ≡ other) is_other (one_for command.function command tables rows other are also)
+
+-- one list of notes for each function
+one_noted : (f : Function) (command : Command) (tables : Tables) (notes other : List Note) → AreNotesFor f command tables notes → AreNotesFor f command tables other → notes ≡ other
+one_noted function.AStar command tables notes other are also = one_notes _ _ _ notes other are also
+one_noted _ command tables notes other are also = are ∙ sym also
+
+-- one list of notes at most is that of a command over tables
+pub one_list_of_notes : (command : Command) (tables : Tables) (notes other : List Note) → AreNotesOver command tables notes → AreNotesOver command tables other → notes ≡ other
+one_list_of_notes command = one_noted command.function command

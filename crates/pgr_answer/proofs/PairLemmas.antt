@@ -1,19 +1,19 @@
 -- A list of pairs of numbers grows by the pairs that are asked for, and once sorted and without repeats it rises.
-use Rattle.std.proofs.Common.{Ordering, Less, Equal, Greater, ◌≡◌, ◌≢◌, ℕ, ◌+◌, ◌<◌, ◌⊎◌, ◌↔◌, inl, inr, ⊎_elim, ℤ, pos, List, [], ◌∷◌, ◌++◌, length, get_or, take, Some, None, Option, slice_get, refl, sym, ap, subst, ◌∙◌, arith, Bool, true, nat_eq, ◌&&◌, rules}
+use Rattle.std.proofs.Common.{Ordering, Equal, ◌≡◌, ◌≢◌, ℕ, ◌+◌, ◌<◌, ◌⊎◌, ◌↔◌, inl, inr, ⊎_elim, ℤ, pos, List, [], ◌∷◌, ◌++◌, length, get_or, take, Some, slice_get, refl, sym, ap, subst, ◌∙◌, arith, Bool, true, nat_eq, ◌&&◌, rules}
 use Rattle.std.specs.List.{Contains, dedup}
-use Rattle.std.specs.Prelude.{IfSome, IsSome}
 use Rattle.std.specs.Cmp.{IsTotalOrder, IsEquivalence, Equal-is}
 use Rattle.std.specs.Cmp.Rules.{comparing}
 use Rattle.std.specs.List.Sorted.{IsSorted, IsPermutation, IsStrictlySortedBy}
-use Rattle.std.specs.Ordering.{nat_cmp, eq_by_cmp, ordering_then}
-use Rattle.std.proofs.lemmas.Cmp.{nat_cmp_total, on_total, then_total, eq_by_cmp_equiv, ranked}
-use Rattle.std.proofs.lemmas.List.{take_more, take_all}
+use Rattle.std.specs.Ordering.{nat_cmp, eq_by_cmp}
+use Rattle.std.proofs.lemmas.Cmp.{nat_cmp_total, on_total, then_total, eq_by_cmp_equiv}
+use Rattle.std.proofs.lemmas.List.{take_more}
 use Rattle.std.proofs.lemmas.Option.{get_or_from_slice_get, slice_get_within}
 use Rattle.std.proofs.lemmas.List.Elements.{Contains-append_left, Contains-push, Contains-push_cases, Contains-get_or}
 use Rattle.std.proofs.lemmas.List.Sorted.{Contains-permutation, IsPermutation-sym}
 use Rattle.std.proofs.lemmas.List.Kept.{Contains-dedup, Contains-from_dedup, IsStrictlySortedBy-dedup}
 use Rattle.std.proofs.lemmas.Map.Keys.{Less-from_sorted}
 use Rattle.pgr_outside.specs.Lists.{IsStrictlyRising}
+use Rattle.pgr_walks.specs.LinkOrders.{nat_tie, then_tie}
 use Rattle.pgr_table.specs.declared.row.PairRow.{PairRow}
 use Rattle.pgr_numbers.specs.Names.{id_at}
 use Rattle.pgr_answer.specs.declared.pair.Pair.{Pair}
@@ -57,7 +57,7 @@ gains_both First Second Both old middle new first second either =
     }
 
 -- a list with one element more contains that element beside the others
-take_cases : {X : Type 0} (xs : List X) (i : ℕ) (d x : X) → i < length xs → Contains (take (i + 1) xs) x ↔ (Contains (take i xs) x ⊎ (x ≡ get_or xs i d))
+pub take_cases : {X : Type 0} (xs : List X) (i : ℕ) (d x : X) → i < length xs → Contains (take (i + 1) xs) x ↔ (Contains (take i xs) x ⊎ (x ≡ get_or xs i d))
 take_cases {X} xs i d x inside =
     let P : List X → Type 0 = λ ys. Contains ys x in
     let longer : take (i + 1) xs ≡ take i xs ++ get_or xs i d ∷ [] = take_more xs i d inside in (
@@ -174,19 +174,9 @@ gained_is_asked names starts ends rows first last old middle new none firsts las
 pub pair_total : IsTotalOrder pair_cmp
 pair_total = then_total (on_total (λ (p : Pair). p.end) nat_cmp_total) (on_total (λ (p : Pair). p.start) nat_cmp_total)
 
--- where one order after another says equal, both do
-pub then_equal : (o p : Ordering) → ordering_then o p ≡ Equal → (o ≡ Equal) × (p ≡ Equal)
-then_equal Less p e = absurd cc
-then_equal Equal p e = (refl, e)
-then_equal Greater p e = absurd cc
-
--- numbers that compare as equal are the same
-pub nat_tie : (x y : ℕ) → nat_cmp x y ≡ Equal → x ≡ y
-nat_tie x y e = ranked x y Equal (sym e)
-
 -- pairs that compare as equal are the same
 pub pair_tie : (p q : Pair) → pair_cmp p q ≡ Equal → p ≡ q
-pair_tie p q e = let both = then_equal (nat_cmp p.end q.end) (nat_cmp p.start q.start) e in same_pair p q (nat_tie p.start q.start both.1) (nat_tie p.end q.end both.0)
+pair_tie p q e = let both = then_tie (nat_cmp p.end q.end) (nat_cmp p.start q.start) e in same_pair p q (nat_tie p.start q.start both.1) (nat_tie p.end q.end both.0)
 
 -- pairs are the same where both their parts are
 abbrev same_parts : Pair → Pair → Bool

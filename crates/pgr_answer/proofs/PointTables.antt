@@ -8,7 +8,7 @@ use Rattle.std.proofs.lemmas.List.Sums.{sum_by-cons}
 use Rattle.pgr_walks.specs.declared.link.LinkOf.{LinkOf}
 use Rattle.pgr_walks.specs.Walk.{cost_of}
 use Rattle.pgr_route.specs.declared.step.Step.{Step}
-use Rattle.pgr_route.specs.Steps.{steps_of, steps_from, link_step, last_step}
+use Rattle.pgr_route.specs.Steps.{steps_of, steps_from, link_step}
 use Rattle.pgr_numbers.specs.Names.{id_at, named}
 use Rattle.pgr_rows.specs.declared.rows.PathRow.{PathRow}
 use Rattle.pgr_answer.specs.declared.found.Found.{Found}

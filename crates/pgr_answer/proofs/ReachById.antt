@@ -1,5 +1,5 @@
 -- The rows of reached vertices by number are those by id.
-use Rattle.std.proofs.Common.{◌≡◌, inl, inr, ⊎_elim, ℕ, zero, suc, ◌<◌, List, [], ◌∷◌, map, length, get_or, refl, sym, ap, ◌∙◌, subst, rules, arith, Ordering, Less}
+use Rattle.std.proofs.Common.{◌≡◌, inl, inr, ⊎_elim, ℕ, ◌<◌, List, [], ◌∷◌, map, length, get_or, refl, sym, ap, ◌∙◌, subst, rules, arith, Ordering, Less}
 use Rattle.std.proofs.lemmas.Grind.{common_steps}
 use Rattle.std.specs.Prelude.{ℤ, Contains, All, Any}
 use Rattle.std.specs.Ordering.{nat_cmp, int_cmp, ordering_then}
@@ -7,6 +7,7 @@ use Rattle.std.specs.Prelude.{pos}
 use Rattle.std.proofs.lemmas.List.{get_or-map, length-map}
 use Rattle.std.proofs.lemmas.List.Elements.{All-contains, All-map, All-nil, All-cons, All-head, All-tail}
 use Rattle.pgr_outside.specs.Lists.{IsStrictlyRising}
+use Rattle.pgr_outside.proofs.Lists.{Contains-map, Contains-from_map}
 use Rattle.pgr_walks.specs.declared.link.LinkOf.{LinkOf}
 use Rattle.pgr_walks.specs.declared.label.Label.{Label}
 use Rattle.pgr_walks.specs.Walk.{IsWalk, cost_of, hops_of}
@@ -14,27 +15,12 @@ use Rattle.pgr_walks.specs.Label.{IsLeastLabelFrom, AtMost, label_of, beyond}
 use Rattle.pgr_walks.specs.Link.{entry_cmp}
 use Rattle.pgr_numbers.specs.Names.{AreEnds, AreNumbered, IsNumbered, id_at, named}
 use Rattle.pgr_numbers.specs.Numbering.{IsNumberedWalk}
+use Rattle.pgr_route.proofs.TightWalks.{label_same}
 use Rattle.pgr_reach.specs.declared.reach.ReachedOf.{ReachedOf}
 use Rattle.pgr_reach.specs.FromRoot.{IsTightFrom, IsTreeLink}
 use Rattle.pgr_reach.specs.Within.{AreWithin, IsRowWithin, row_cmp}
 use Rattle.pgr_answer.specs.Rooted.{named_row, IsRowBelow}
-
--- an element of a mapped list is the image of one
-pub mapped : {X Y : Type 0} (f : X → Y) (xs : List X) (y : Y) → Contains (map f xs) y → (x : X) × (Contains xs x × (f x ≡ y))
-mapped f [] y (k, inside, is) = absurd (omega arith)
-mapped f (x ∷ xs) y (zero, inside, is) = (x, ((0, omega arith, refl), is))
-mapped f (x ∷ xs) y (suc k, inside, is) =
-    let later = mapped f xs y (k, omega arith, is) in
-    (later.0, ((suc later.1.0.0, omega (arith, later.1.0.1), later.1.0.2), later.1.1))
-
--- and the image of an element is one of the mapped list
-pub image : {X Y : Type 0} (f : X → Y) (xs : List X) (x : X) → Contains xs x → Contains (map f xs) (f x)
-image f [] x (k, inside, is) = absurd (omega arith)
-image f (y ∷ xs) x (zero, inside, is) = (0, omega arith, ap f is)
-image f (y ∷ xs) x (suc k, inside, is) = let later = image f xs x (k, omega arith, is) in (suc later.0, omega (arith, later.1), later.2)
-
-Any-map : {X Y : Type 0} (P : Y → Type 0) (f : X → Y) (xs : List X) → Any (λ x. P (f x)) xs → Any P (map f xs)
-Any-map P f xs (k, x, within, is, holds) = (k, f x, omega (arith, length-map xs f), get_or-map f xs k x (f x) within ∙ ap f is, holds)
+use Rattle.pgr_answer.proofs.AnswersAlong.{Any-map}
 
 -- what has some of a list follows from what each of it has
 Any-follows : {X : Type 0} (P Q : X → Type 0) (xs : List X) → ((x : X) → P x → Q x) → Any P xs → Any Q xs
@@ -57,10 +43,6 @@ mapped_rise {X = X} cmp next f e xs kept rise i j d before inside =
     same_default : (xs : List X) (k : ℕ) (e : X) → k < length xs → get_or xs k (get_or xs k e) ≡ get_or xs k e
     same_default xs k e inside = search (rules, arith, common_steps)
 
--- labels with the same parts
-same_label : (a b : Label) → a.cost ≡ b.cost → a.hops ≡ b.hops → a ≡ b
-same_label a b cost hops = ap (λ x. record a { cost = x }) cost ∙ ap (λ x. record b { hops = x }) hops
-
 module _ (names : List ℤ) (links : List (LinkOf ℤ)) (numbers : List (LinkOf ℕ))
     (ends : AreEnds links names)
     (numbered : AreNumbered names links numbers)
@@ -73,7 +55,7 @@ module _ (names : List ℤ) (links : List (LinkOf ℤ)) (numbers : List (LinkOf 
     (order_kept : (m n : ℕ) → IsStrictlyRising int_cmp names → m < length names → n < length names → int_cmp (id_at names m) (id_at names n) ≡ nat_cmp m n)
     (one_number : (m n : ℕ) → IsStrictlyRising int_cmp names → m < length names → n < length names → id_at names m ≡ id_at names n → m ≡ n) where
   label_kept : (walk : List (LinkOf ℕ)) → label_of (map (named names) walk) ≡ label_of walk
-  label_kept walk = same_label _ _ (cost_kept walk) (hops_kept walk)
+  label_kept walk = label_same _ _ (cost_kept walk) (hops_kept walk)
 
   -- a walk ends at a number of a name where it begins at one
   ends_at_name : (s : ℕ) (walk : List (LinkOf ℕ)) (t : ℕ) → s < length names → IsWalk (Contains numbers) s walk t → t < length names
@@ -105,10 +87,12 @@ module _ (names : List ℤ) (links : List (LinkOf ℤ)) (numbers : List (LinkOf 
 
   -- a named link is one of the numbered ones
   link_named : (link : LinkOf ℕ) → Contains numbers link → Contains links (named names link)
-  link_named link has = subst (λ ls. Contains ls (named names link)) numbered.same (image (named names) numbers link has)
+  link_named link has = subst (λ ls. Contains ls (named names link)) numbered.same (Contains-map (named names) numbers link has)
 
   link_numbered : (link : LinkOf ℤ) → Contains links link → (number : LinkOf ℕ) × (Contains numbers number × (named names number ≡ link))
-  link_numbered link has = mapped (named names) numbers link (subst (λ ls. Contains ls link) (sym numbered.same) has)
+  link_numbered link has =
+      let found = Contains-from_map (named names) numbers link (subst (λ ls. Contains ls link) (sym numbered.same) has) in
+      (found.0, (found.1, sym found.2))
 
   -- the order of links into a vertex
   entry_kept : (a b : LinkOf ℕ) → IsNumbered names a → IsNumbered names b → entry_cmp int_cmp (named names a) (named names b) ≡ entry_cmp nat_cmp a b

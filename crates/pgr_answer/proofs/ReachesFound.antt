@@ -5,11 +5,13 @@ use Rattle.std.specs.Prelude.{◌↔◌, ℤ, pos, All, Contains}
 use Rattle.std.specs.Ordering.{nat_cmp, int_cmp}
 use Rattle.std.proofs.lemmas.List.Elements.{Contains-get_or, All-contains}
 use Rattle.pgr_outside.specs.Lists.{IsStrictlyRising}
+use Rattle.pgr_outside.proofs.Lists.{Contains-map, Contains-from_map}
 use Rattle.pgr_walks.specs.declared.link.LinkOf.{LinkOf}
 use Rattle.pgr_walks.specs.Walk.{IsWalk, IsVertex, cost_of, hops_of}
 use Rattle.pgr_walks.specs.Graph.{IsLinkOf}
 use Rattle.pgr_numbers.specs.Names.{AreEnds, AreNumbered, id_at, named}
 use Rattle.pgr_numbers.specs.Numbering.{IsNumberedWalk, HasExactly}
+use Rattle.pgr_numbers.proofs.Order.{int_cmp-id_at, id_at_one_to_one}
 use Rattle.pgr_rows.specs.declared.rows.Rows.{Rows}
 use Rattle.pgr_rows.specs.declared.rows.Rows.TheVariants.{Reaches}
 use Rattle.pgr_reach.specs.declared.reach.Reach.{Reach}
@@ -18,7 +20,7 @@ use Rattle.pgr_reach.specs.Equicost.{listed}
 use Rattle.pgr_answer.specs.Gathering.{AreNumbersOf}
 use Rattle.pgr_answer.specs.DrivingDistance.{Rooted, AreReaches, AreShown, IsReachTable, reach_table}
 use Rattle.pgr_answer.specs.Rooted.{named_row, named_list, IsListBelow}
-use Rattle.pgr_answer.proofs.ReachById.{mapped, image, mapped_rise, within_by_ids, rows_below}
+use Rattle.pgr_answer.proofs.ReachById.{mapped_rise, within_by_ids, rows_below}
 use Rattle.pgr_answer.proofs.ClosestById.{closest_by_ids, kept_below}
 use Rattle.pgr_answer.proofs.WithinAlong.{within-over}
 
@@ -53,26 +55,20 @@ module _ (names : List ℤ) (links : List (LinkOf ℤ)) (numbers : List (LinkOf 
     (reaches : List Reach)
     (of_roots : map (λ (reach : Reach). reach.root) reaches ≡ roots)
     (within : All (λ (reach : Reach). AreWithin nat_cmp (IsLinkOf size ins) reach.root distance reach.rows.items) reaches) where
-  order : (m n : ℕ) → m < length names → n < length names → int_cmp (id_at names m) (id_at names n) ≡ nat_cmp m n
-  order m n = order_kept m n numbered.rise
-
-  one : (m n : ℕ) → m < length names → n < length names → id_at names m ≡ id_at names n → m ≡ n
-  one m n = one_number m n numbered.rise
-
   -- the roots of the lists
   old_roots : map (λ (list : Rooted ℕ). list.0) (map listed reaches) ≡ roots
   old_roots = map_twice listed (λ (list : Rooted ℕ). list.0) reaches ∙ of_roots
 
   root_below : (list : Rooted ℕ) → Contains (map listed reaches) list → list.0 < length names
   root_below list has =
-      ((are_roots list.0).0 (subst (λ rs. Contains rs list.0) old_roots (image (λ (list : Rooted ℕ). list.0) (map listed reaches) list has))).0
+      ((are_roots list.0).0 (subst (λ rs. Contains rs list.0) old_roots (Contains-map (λ (list : Rooted ℕ). list.0) (map listed reaches) list has))).0
 
   old_within : (list : Rooted ℕ) → Contains (map listed reaches) list → AreWithin nat_cmp (Contains numbers) list.0 distance list.1
   old_within list has =
-      let found = mapped listed reaches list has in
-      let is = All-contains (λ (reach : Reach). AreWithin nat_cmp (IsLinkOf size ins) reach.root distance reach.rows.items) reaches found.0 within found.1.0 in
+      let found = Contains-from_map listed reaches list has in
+      let is = All-contains (λ (reach : Reach). AreWithin nat_cmp (IsLinkOf size ins) reach.root distance reach.rows.items) reaches found.0 within found.1 in
       let numbers_too = within-over nat_cmp (IsLinkOf size ins) (Contains numbers) exactly found.0.root distance found.0.rows.items is in
-      subst (λ (l : Rooted ℕ). AreWithin nat_cmp (Contains numbers) l.0 distance l.1) found.1.1 numbers_too
+      subst (λ (l : Rooted ℕ). AreWithin nat_cmp (Contains numbers) l.0 distance l.1) (sym found.2) numbers_too
 
   old_below : (list : Rooted ℕ) → Contains (map listed reaches) list → IsListBelow (length names) list
   old_below list has = (
@@ -84,18 +80,19 @@ module _ (names : List ℤ) (links : List (LinkOf ℤ)) (numbers : List (LinkOf 
   -- the vertices that are shown are numbers of names
   lists_below : (equicost : Bool) (shown : List (Rooted ℕ)) → AreShown nat_cmp equicost (map listed reaches) shown → (list : Rooted ℕ) → Contains shown list
       → IsListBelow (length names) list
-  lists_below true shown are list has = kept_below names order one (map listed reaches) old_below shown are list has
+  lists_below true shown are list has =
+      kept_below names (int_cmp-id_at names numbered.rise) (id_at_one_to_one names numbered.rise) (map listed reaches) old_below shown are list has
   lists_below false shown are list has = old_below list (subst (λ ls. Contains ls list) are has)
 
   pub shown_below : (equicost : Bool) (left : List Reach) → AreShown nat_cmp equicost (map listed reaches) (map listed left)
       → All (λ (reach : Reach). IsListBelow (length names) (listed reach)) left
   shown_below equicost left are k d inside =
-      lists_below equicost (map listed left) are (listed (get_or left k d)) (image listed left (get_or left k d) (Contains-get_or left k d inside))
+      lists_below equicost (map listed left) are (listed (get_or left k d)) (Contains-map listed left (get_or left k d) (Contains-get_or left k d inside))
 
   -- the lists that are shown by id
   shown_named : (equicost : Bool) (shown : List (Rooted ℕ)) → AreShown nat_cmp equicost (map listed reaches) shown
       → AreShown int_cmp equicost (map (named_list names) (map listed reaches)) (map (named_list names) shown)
-  shown_named true shown are = closest_by_ids names order one (map listed reaches) old_below shown are
+  shown_named true shown are = closest_by_ids names (int_cmp-id_at names numbered.rise) (id_at_one_to_one names numbered.rise) (map listed reaches) old_below shown are
   shown_named false shown are = ap (map (named_list names)) are
 
   module _ (P : LinkOf ℤ → Type 0) (same : (link : LinkOf ℤ) → Contains links link ↔ P link) (rise : IsStrictlyRising nat_cmp roots) where
@@ -107,16 +104,16 @@ module _ (names : List ℤ) (links : List (LinkOf ℤ)) (numbers : List (LinkOf 
     into id has (k, inside, is) =
         let at : id_at names k ≡ id = search (rules, arith, common_steps) in
         let among = (are_roots k).1 (inside, subst (Contains starts) (sym at) has) in
-        subst (Contains (map (id_at names) roots)) at (image (id_at names) roots k among)
+        subst (Contains (map (id_at names) roots)) at (Contains-map (id_at names) roots k among)
 
     -- the ids of the roots are the starts that are vertices
     ids_of_roots : (id : ℤ) → Contains (map (id_at names) roots) id ↔ (Contains starts id × IsVertex P id)
     ids_of_roots id = (
       λ has.
-          let found = mapped (id_at names) roots id has in
-          let is = (are_roots found.0).0 found.1.0 in
-          let among : Contains names id = subst (Contains names) found.1.1 (Contains-get_or names found.0 (pos 0) is.0) in
-          (subst (Contains starts) found.1.1 is.1, (vertex_over id).0 ((ends.ends id).0 among)),
+          let found = Contains-from_map (id_at names) roots id has in
+          let is = (are_roots found.0).0 found.1 in
+          let among : Contains names id = subst (Contains names) (sym found.2) (Contains-get_or names found.0 (pos 0) is.0) in
+          (subst (Contains starts) (sym found.2) is.1, (vertex_over id).0 ((ends.ends id).0 among)),
       λ both. into id both.0 ((ends.ends id).1 ((vertex_over id).1 both.1)),
     )
 
@@ -128,14 +125,14 @@ module _ (names : List ℤ) (links : List (LinkOf ℤ)) (numbers : List (LinkOf 
         record {
           roots = λ id. subst (λ ls. Contains ls id ↔ (Contains starts id × IsVertex P id)) (sym ids) (ids_of_roots id);
           rise = subst (IsStrictlyRising int_cmp) (sym ids) (mapped_rise nat_cmp int_cmp (id_at names) 0 roots
-              (λ a b in_a in_b. order a b ((are_roots a).0 in_a).0 ((are_roots b).0 in_b).0) rise);
+              (λ a b in_a in_b. int_cmp-id_at names numbered.rise a b ((are_roots a).0 in_a).0 ((are_roots b).0 in_b).0) rise);
           within = λ list has.
-              let found = mapped (named_list names) (map listed reaches) list has in
+              let found = Contains-from_map (named_list names) (map listed reaches) list has in
               let number = found.0 in
               let by_ids = within_by_ids names links numbers ends numbered walk_named walk_numbered cost_kept hops_kept order_kept one_number
-              number.0 (root_below number found.1.0) distance number.1 (old_within number found.1.0) in
+              number.0 (root_below number found.1) distance number.1 (old_within number found.1) in
               let over = within-over int_cmp (Contains links) P same (id_at names number.0) distance (map (named_row names) number.1) by_ids in
-              subst (λ (l : Rooted ℤ). AreWithin int_cmp P l.0 distance l.1) found.1.1 over;
+              subst (λ (l : Rooted ℤ). AreWithin int_cmp P l.0 distance l.1) (sym found.2) over;
         }
 
     -- the table

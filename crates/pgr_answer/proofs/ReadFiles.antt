@@ -1,6 +1,6 @@
 -- Files that are read one after the other: those that are read are accepted, and the first that is refused is refused among all.
-use Rattle.std.proofs.Common.{◌≡◌, ℕ, ◌+◌, ◌<◌, ◌≤◌, List, [], ◌∷◌, ◌++◌, length, map, refl, sym, ap, subst, ◌∙◌, arith, append_assoc, append-nil, take, drop, get_or, take-append-drop, Option, Some, None, Ok}
-use Rattle.std.specs.Prelude.{All, IfSome, Err, fold, flat_map, replicate}
+use Rattle.std.proofs.Common.{◌≡◌, ◌≢◌, ℕ, ◌+◌, ◌<◌, ◌≤◌, List, [], ◌∷◌, ◌++◌, length, map, refl, sym, ap, subst, ◌∙◌, arith, append_assoc, append-nil, take, drop, get_or, take-append-drop, Option, Some, None, Ok}
+use Rattle.std.specs.Prelude.{IfSome, Err, fold, flat_map, replicate}
 use Rattle.std.proofs.lemmas.Bool.{lt-ltb, le-ltb}
 use Rattle.std.proofs.lemmas.List.{map-append, length-replicate, take_more}
 use Rattle.std.proofs.lemmas.List.Concat.{flat_map-append}
@@ -10,6 +10,7 @@ use Rattle.pgr_outside.specs.Faults.{HasRisen, NoneFell}
 use Rattle.pgr_outside.specs.declared.reading.ReadRefused.{ReadRefused}
 use Rattle.pgr_outside.specs.declared.reading.ReadRefused.TheVariants as read
 use Rattle.pgr_words.specs.declared.command.Command.{Command}
+use Rattle.pgr_words.specs.declared.function.Function.{Function}
 use Rattle.pgr_table.specs.declared.fault.TableFault.{TableFault}
 use Rattle.pgr_table.specs.declared.fault.TableRefused.{TableRefused}
 use Rattle.pgr_table.specs.declared.fault.TableRefused.TheVariants as table
@@ -17,10 +18,12 @@ use Rattle.pgr_answer.specs.declared.tables.Tables.{Tables}
 use Rattle.pgr_answer.specs.declared.role.Role.{Role}
 use Rattle.pgr_answer.specs.declared.refused.Refused.{Refused}
 use Rattle.pgr_answer.specs.declared.refused.Refused.TheVariants.{ReadFailed, TooLong, Table, Memory}
-use Rattle.pgr_answer.specs.Roles.{file_name_of, kind_of}
+use Rattle.pgr_answer.specs.declared.role.Role.TheVariants.{Edges, Points, Restrictions, Combinations}
+use Rattle.pgr_answer.specs.declared.role.Kind.TheVariants as kind
+use Rattle.pgr_answer.specs.Roles.{file_name_of, kind_of, kind_of_edges}
 use Rattle.pgr_answer.specs.Tables.{judged_as}
 use Rattle.pgr_answer.specs.Contents.{after, with_content}
-use Rattle.pgr_answer.specs.Files.{File, Content, most_bytes, fault_in, refusal_of, IsPossible, IsAccepted, AreAccepted, files_with}
+use Rattle.pgr_answer.specs.Files.{File, Content, most_bytes, refusal_of, IsPossible, IsAccepted, AreAccepted, files_with}
 use Rattle.pgr_answer.specs.Reading.{IsTableRead, AreRead}
 use Rattle.pgr_answer.specs.Refusals.{IsContentRefused, IsRefused, HoldsAmong, from_read, from_table}
 
@@ -33,7 +36,8 @@ accepted_short : (file : File) (bytes : List ℕ) (place : Tables → Tables) �
 accepted_short file bytes place short good = rw (le-ltb most_bytes (length bytes) short, good) refl
 
 -- and refused by their fault
-refused_short : (file : File) (bytes : List ℕ) (fault : TableFault) → length bytes ≤ most_bytes → judged_as file.kind bytes ≡ Err fault → refusal_of file bytes ≡ Some (Table file.role fault)
+refused_short : (file : File) (bytes : List ℕ) (fault : TableFault) → length bytes ≤ most_bytes → judged_as file.kind bytes ≡ Err fault
+    → refusal_of file bytes ≡ Some (Table file.role fault)
 refused_short file bytes fault short bad = rw (le-ltb most_bytes (length bytes) short, bad) refl
 
 module _ (known : List ℕ → Option (List ℕ)) where
@@ -166,8 +170,16 @@ module _ (known : List ℕ → Option (List ℕ)) where
     refuses = refused_later before between after holds.file found fell holds.refuses;
   }
 
+-- where the edges of a function are read with places, no file is read as edges without them
+pub not_plain : (f : Function) (role : Role) → kind_of_edges f ≡ kind.PlacedEdges → kind_of f role ≢ kind.Edges
+not_plain f Edges placed = λ e. cc
+not_plain f Points placed = λ e. cc
+not_plain f Restrictions placed = λ e. cc
+not_plain f Combinations placed = λ e. cc
+
 -- the files with a role are one, where a command names it
-pub files_with_one : (command : Command) (role : Role) (name : List ℕ) → file_name_of command role ≡ Some name → files_with command role ≡ record { role = role; kind = kind_of command.function role; name = name } ∷ []
+pub files_with_one : (command : Command) (role : Role) (name : List ℕ) → file_name_of command role ≡ Some name
+    → files_with command role ≡ record { role = role; kind = kind_of command.function role; name = name } ∷ []
 files_with_one command role name is = rw is refl
 
 -- and none, where it names none

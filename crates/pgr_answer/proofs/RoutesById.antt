@@ -1,6 +1,6 @@
 -- The first K routes between vertex numbers are the first K between the ids that they stand for.
-use Rattle.std.proofs.Common.{◌≡◌, ◌≢◌, ℕ, ℤ, zero, suc, ◌<◌, ◌≤◌, List, [], ◌∷◌, length, map, get_or, refl, sym, ap, ◌∙◌, subst, arith, Some}
-use Rattle.std.specs.Prelude.{All, Contains, slice_get}
+use Rattle.std.proofs.Common.{◌≡◌, ℕ, ℤ, suc, ◌<◌, List, [], ◌∷◌, length, map, get_or, refl, sym, ap, ◌∙◌, subst, arith, Some}
+use Rattle.std.specs.Prelude.{All}
 use Rattle.std.specs.Ordering.{nat_cmp, int_cmp}
 use Rattle.std.proofs.lemmas.Option.{same_Some, slice_get-get_or}
 use Rattle.std.proofs.lemmas.List.{length-map, get_or-map}
@@ -41,11 +41,11 @@ module _ (names : List ℤ) (rise : IsStrictlyRising int_cmp names)
     (order : (walk other : List (LinkOf ℕ)) → All (IsNumbered names) walk → All (IsNumbered names) other
     → route_cmp int_cmp (map (named names) walk) (map (named names) other) ≡ route_cmp nat_cmp walk other)
     (Has : LinkOf ℕ → Type 0) (HasId : LinkOf ℤ → Type 0) (are : AreNamed names Has HasId) where
-  walk_there : (s : ℕ) (walk : List (LinkOf ℕ)) (t : ℕ) → IsWalk Has s walk t → IsWalk HasId (id_at names s) (map (named names) walk) (id_at names t)
+  pub walk_there : (s : ℕ) (walk : List (LinkOf ℕ)) (t : ℕ) → IsWalk Has s walk t → IsWalk HasId (id_at names s) (map (named names) walk) (id_at names t)
   walk_there s [] t w = ap (id_at names) w
   walk_there s (link ∷ rest) t w = (are.to link w.0, ap (id_at names) w.1, walk_there link.to rest t w.2)
 
-  walk_back : (s : ℕ) (walk : List (LinkOf ℤ)) (t : ℕ) → s < length names → t < length names → IsWalk HasId (id_at names s) walk (id_at names t)
+  pub walk_back : (s : ℕ) (walk : List (LinkOf ℤ)) (t : ℕ) → s < length names → t < length names → IsWalk HasId (id_at names s) walk (id_at names t)
       → (number : List (LinkOf ℕ)) × IsWalk Has s number t × (map (named names) number ≡ walk)
   walk_back s [] t s_in t_in w = ([], one_number s t s_in t_in w, refl)
   walk_back s (link ∷ rest) t s_in t_in w =
@@ -55,7 +55,7 @@ module _ (names : List ℤ) (rise : IsStrictlyRising int_cmp names)
       let later = walk_back number.0.to rest t within.1 t_in on in
       (number.0 ∷ later.0, (number.1.0, one_number number.0.from s within.0 s_in (ap (λ l. l.from) number.1.1 ∙ w.1), later.1), λ i. number.1.1 i ∷ later.2 i)
 
-  numbered : (s : ℕ) (walk : List (LinkOf ℕ)) (t : ℕ) → IsWalk Has s walk t → All (IsNumbered names) walk
+  pub numbered : (s : ℕ) (walk : List (LinkOf ℕ)) (t : ℕ) → IsWalk Has s walk t → All (IsNumbered names) walk
   numbered s [] t w = All-nil (IsNumbered names)
   numbered s (link ∷ rest) t w = All-cons (IsNumbered names) link rest (are.ends link w.0) (numbered link.to rest t w.2)
 

@@ -1,26 +1,10 @@
 -- Strictly rising lists: they are the same where they have the same elements.
-use Rattle.std.proofs.Common.{◌≡◌, zero, suc, List, [], ◌∷◌, ◌⊎◌, inl, inr, refl, sym, ap, ◌∙◌, subst, arith, Ordering, Less, Greater}
+use Rattle.std.proofs.Common.{◌≡◌, suc, List, [], ◌∷◌, ◌⊎◌, inl, inr, refl, sym, ap, ◌∙◌, subst, arith, Ordering, Less, Greater}
 use Rattle.std.specs.Prelude.{Contains}
 use Rattle.std.specs.Ordering.{ordering_reverse}
 use Rattle.std.specs.Cmp.{IsTotalOrder}
 use Rattle.pgr_outside.specs.Lists.{IsStrictlyRising}
-
--- the first element is contained
-here : {X : Type 0} (x : X) (xs : List X) → Contains (x ∷ xs) x
-here x xs = (0, omega arith, refl)
-
--- and so is an element of the rest
-there : {X : Type 0} (x : X) (xs : List X) (y : X) → Contains xs y → Contains (x ∷ xs) y
-there x xs y (k, within, is) = (suc k, omega arith, is)
-
--- a contained element is the first one or one of the rest
-first_or_later : {X : Type 0} (x : X) (xs : List X) (y : X) → Contains (x ∷ xs) y → (x ≡ y) ⊎ Contains xs y
-first_or_later x xs y (zero, within, is) = inl is
-first_or_later x xs y (suc k, within, is) = inr (k, omega arith, is)
-
--- the empty list contains nothing
-not_in_none : {X : Type 0} (x : X) → Contains [] x → ⊥
-not_in_none x (k, within, is) = absurd (omega arith)
+use Rattle.pgr_outside.proofs.Lists.{Contains-here, Contains-later, Contains-cons_cases, Contains-none}
 
 module _ {X : Type 0} (cmp : X → X → Ordering) (total : IsTotalOrder cmp) where
   -- two elements aren't each before the other
@@ -57,11 +41,11 @@ module _ {X : Type 0} (cmp : X → X → Ordering) (total : IsTotalOrder cmp) wh
   pub rising_is_one : (xs ys : List X) → IsStrictlyRising cmp xs → IsStrictlyRising cmp ys → ((z : X) → Contains xs z → Contains ys z)
       → ((z : X) → Contains ys z → Contains xs z) → xs ≡ ys
   rising_is_one [] [] rise rises into back = refl
-  rising_is_one [] (y ∷ ys) rise rises into back = absurd (not_in_none y (back y (here y ys)))
-  rising_is_one (x ∷ xs) [] rise rises into back = absurd (not_in_none x (into x (here x xs)))
+  rising_is_one [] (y ∷ ys) rise rises into back = absurd (Contains-none y (back y (Contains-here y ys)))
+  rising_is_one (x ∷ xs) [] rise rises into back = absurd (Contains-none x (into x (Contains-here x xs)))
   rising_is_one (x ∷ xs) (y ∷ ys) rise rises into back =
-      let same = same_first x xs y ys rise rises (first_or_later x xs y (back y (here y ys))) (first_or_later y ys x (into x (here x xs))) in
+      let same = same_first x xs y ys rise rises (Contains-cons_cases x xs y (back y (Contains-here y ys))) (Contains-cons_cases y ys x (into x (Contains-here x xs))) in
       let rest = rising_is_one xs ys (rest_rises x xs rise) (rest_rises y ys rises)
-      (λ z later. in_rest x xs y ys z rise same later (first_or_later y ys z (into z (there x xs z later))))
-      (λ z later. in_rest y ys x xs z rises (sym same) later (first_or_later x xs z (back z (there y ys z later)))) in
+      (λ z later. in_rest x xs y ys z rise same later (Contains-cons_cases y ys z (into z (Contains-later x xs z later))))
+      (λ z later. in_rest y ys x xs z rises (sym same) later (Contains-cons_cases x xs z (back z (Contains-later y ys z later)))) in
       λ i. same i ∷ rest i

@@ -1,12 +1,11 @@
 -- What is found for the pairs of a network, as a table over the links that it has.
-use Rattle.std.proofs.Common.{◌≡◌, ◌≢◌, Bool, ℕ, ℤ, pos, ◌<◌, List, [], ◌∷◌, length, get_or, inl, inr, map, sym, ap, subst, ◌∙◌, refl, arith, Ordering, Less}
+use Rattle.std.proofs.Common.{◌≡◌, ◌≢◌, Bool, ℕ, ℤ, pos, ◌<◌, List, [], ◌∷◌, length, get_or, inl, inr, map, sym, ap, subst, ◌∙◌, refl, arith, Less}
 use Rattle.std.specs.Prelude.{◌↔◌, All, Any, Contains}
 use Rattle.std.specs.Ordering.{int_cmp, nat_cmp, ordering_then}
 use Rattle.std.proofs.lemmas.List.{get_or-map, length-map, get_or_default}
 use Rattle.std.proofs.lemmas.List.Elements.{All-map, All-weaker, All-contains_itself, Contains-get_or}
 use Rattle.pgr_outside.specs.Lists.{IsStrictlyRising}
 use Rattle.pgr_walks.specs.declared.link.LinkOf.{LinkOf}
-use Rattle.pgr_walks.specs.Walk.{IsWalk}
 use Rattle.pgr_numbers.specs.Names.{AreEnds, IsNumbered, id_at, named}
 use Rattle.pgr_rows.specs.declared.rows.PathRow.{PathRow}
 use Rattle.pgr_rows.specs.declared.rows.CostRow.{CostRow}
@@ -15,11 +14,11 @@ use Rattle.pgr_rows.specs.declared.rows.Rows.TheVariants.{Paths, Costs}
 use Rattle.pgr_answer.specs.declared.pair.Pair.{Pair}
 use Rattle.pgr_answer.specs.declared.found.Found.{Found}
 use Rattle.pgr_answer.specs.Pairs.{IsAnswerable, IsAsked, IsAskedOfMatrix}
-use Rattle.pgr_answer.specs.Answers.{Answer, answer_cmp, AreAnswers}
+use Rattle.pgr_answer.specs.Answers.{Answer, answer_cmp, AreAnswers, AreAnswersBy}
 use Rattle.pgr_answer.specs.Costs.{IsLeastCost}
 use Rattle.pgr_answer.specs.CostTables.{IsCostTable, cost_row}
 use Rattle.pgr_answer.specs.Gathering.{IsNumberedPair}
-use Rattle.pgr_answer.specs.Finding.{IsPairAmong, HasNames, pair_of, found_cmp, AreFound}
+use Rattle.pgr_answer.specs.Finding.{IsPairAmong, HasNames, pair_of, found_cmp, AreFound, AreFoundBy}
 use Rattle.pgr_answer.specs.Networks.{IsRouteBetween}
 use Rattle.pgr_answer.specs.Paths.{IsLeastBetween, IsPathTable, path_table}
 use Rattle.pgr_answer.specs.WithPoints.{shown_table, IsShownTable}
@@ -37,7 +36,8 @@ module _ (names : List ℤ) (Asked : ℤ → ℤ → Type 0) (pairs : List Pair)
   pub pairs_among : All (IsPairAmong (length names)) pairs
   pairs_among = All-weaker (Contains pairs) (IsPairAmong (length names)) (λ pair there. let is = (are_pairs pair).0 there in (is.0, is.1, is.2)) pairs (All-contains_itself pairs)
 
-  module _ {Shown : Type 0} (Has : LinkOf ℤ → Type 0) (Shows : ℤ → ℤ → Shown → Type 0) (found : List (Found Shown)) (are : AreFound Has Shows names pairs found) where
+  module _ {Shown : Type 0} (Leads : ℤ → ℤ → List (LinkOf ℤ) → Type 0) (Shows : ℤ → ℤ → Shown → Type 0) (found : List (Found Shown))
+      (are : AreFoundBy Leads Shows names pairs found) where
     -- what is found is for numbers of names
     pub found_named : All (HasNames (length names)) found
     found_named = All-weaker (λ f. Contains pairs (pair_of f)) (HasNames (length names)) (λ f there. let is = (are_pairs (pair_of f)).0 there in (is.0, is.1)) found are.asked
@@ -61,7 +61,8 @@ module _ (names : List ℤ) (Asked : ℤ → ℤ → Type 0) (pairs : List Pair)
       differ = λ same. is.2 (one pair.start pair.end is.0 is.1 same);
     }
 
-    module _ {Shown : Type 0} (Shows : ℤ → ℤ → Shown → Type 0) (found : List (Found Shown)) (are : AreFound (Contains links) Shows names pairs found)
+    module _ {Shown : Type 0} {Leads : ℤ → ℤ → List (LinkOf ℤ) → Type 0} (Shows : ℤ → ℤ → Shown → Type 0) (found : List (Found Shown))
+        (are : AreFoundBy Leads Shows names pairs found)
         (rise : IsStrictlyRising found_cmp found) where
       -- what holds of each numbered pair of what is found
       each : (P : ℤ → ℤ → Type 0) → ((pair : Pair) → IsNumberedPair names Asked pair → P (id_at names pair.start) (id_at names pair.end))
@@ -71,16 +72,15 @@ module _ (names : List ℤ) (Asked : ℤ → ℤ → Type 0) (pairs : List Pair)
           (λ f there. holds (pair_of f) ((are_pairs (pair_of f)).0 there)) found are.asked)
 
       -- a pair of ids that is asked for, can be answered and has a walk has an answer
-      some : (s t : ℤ) (walk : List (LinkOf ℤ)) → Asked s t → IsAnswerable (Contains links) s t → IsWalk (Contains links) s walk t
+      some : (s t : ℤ) (walk : List (LinkOf ℤ)) → Asked s t → IsAnswerable (Contains links) s t → Leads s t walk
           → Any (λ answer. (answer.start ≡ s) × (answer.end ≡ t)) (map (answer_of names) found)
-      some s t walk asked answerable is_walk =
+      some s t walk asked answerable leads =
           let m = number s ((are_ends.ends s).1 answerable.start_is_vertex) in
           let n = number t ((are_ends.ends t).1 answerable.end_is_vertex) in
           let pair : Pair = record { end = n.0; start = m.0 } in
           let differ : m.0 ≢ n.0 = λ same. answerable.differ (sym m.2 ∙ ap (id_at names) same ∙ n.2) in
           let here : Asked (id_at names m.0) (id_at names n.0) = subst (λ a. Asked a (id_at names n.0)) (sym m.2) (subst (λ b. Asked s b) (sym n.2) asked) in
-          let along : IsWalk (Contains links) (id_at names m.0) walk (id_at names n.0) = subst (λ a. IsWalk (Contains links) a walk (id_at names n.0)) (sym m.2)
-          (subst (λ b. IsWalk (Contains links) s walk b) (sym n.2) is_walk) in
+          let along : Leads (id_at names m.0) (id_at names n.0) walk = subst (λ a. Leads a (id_at names n.0) walk) (sym m.2) (subst (λ b. Leads s b walk) (sym n.2) leads) in
           let there = are.every pair walk ((are_pairs pair).1 (m.1, n.1, differ, here)) along in
           Any-map (λ (answer : Answer Shown). (answer.start ≡ s) × (answer.end ≡ t)) (answer_of names) found
           (there.0, there.1, there.2, there.3, (ap (λ (p : Pair). id_at names p.start) there.4 ∙ m.2, ap (λ (p : Pair). id_at names p.end) there.4 ∙ n.2))
@@ -110,10 +110,10 @@ module _ (names : List ℤ) (Asked : ℤ → ℤ → Type 0) (pairs : List Pair)
             rewritten : j < length (map (answer_of names) found) → j < length found
             rewritten within = rw length-map at within
 
-            named_at : (found : List (Found Shown)) → AreFound (Contains links) Shows names pairs found → All (HasNames (length names)) found
-            named_at found are = found_named (Contains links) Shows found are
+            named_at : (found : List (Found Shown)) → AreFoundBy Leads Shows names pairs found → All (HasNames (length names)) found
+            named_at found are = found_named Leads Shows found are
 
-            by_found : (found : List (Found Shown)) → AreFound (Contains links) Shows names pairs found → IsStrictlyRising found_cmp found → (i j : ℕ) (x : Answer Shown)
+            by_found : (found : List (Found Shown)) → AreFoundBy Leads Shows names pairs found → IsStrictlyRising found_cmp found → (i j : ℕ) (x : Answer Shown)
                 → i < j → j < length found → answer_cmp (get_or (map (answer_of names) found) i x) (get_or (map (answer_of names) found) j x) ≡ Less
             by_found [] are rise i j x before within = absurd (omega arith)
             by_found (first ∷ rest) are rise i j x before within =
@@ -126,7 +126,7 @@ module _ (names : List ℤ) (Asked : ℤ → ℤ → Type 0) (pairs : List Pair)
                 ∙ rise i j first before within
 
       -- what is found is the answers to the pairs that are asked for
-      pub answers_found : AreAnswers (Contains links) Asked Shows (map (answer_of names) found)
+      pub answers_found : AreAnswersBy (Contains links) Leads Asked Shows (map (answer_of names) found)
       answers_found = record {
         asked = each Asked (λ pair is. is.3);
         answerable = each (IsAnswerable (Contains links)) answerable_ids;

@@ -5,10 +5,10 @@ use Rattle.std.specs.declared.cmp.Ordering.{Ordering}
 use Rattle.pgr_walks.specs.declared.link.LinkOf.{LinkOf}
 use Rattle.pgr_walks.specs.declared.label.Label.{Label}
 use Rattle.pgr_walks.specs.Label.{IsLeastLabelFrom}
+use Rattle.pgr_route.proofs.TightWalks.{walk_wider}
 use Rattle.pgr_reach.specs.declared.reach.ReachedOf.{ReachedOf}
 use Rattle.pgr_reach.specs.FromRoot.{IsTightFrom, IsTreeLink}
 use Rattle.pgr_reach.specs.Within.{AreWithin, IsRowWithin}
-use Rattle.pgr_answer.proofs.NetworkLemmas.{IsWalk-along}
 use Rattle.pgr_answer.proofs.ReachById.{All-follows}
 
 -- labels
@@ -16,9 +16,9 @@ label-over : {V : Type 0} (P Q : LinkOf V → Type 0) → ((link : LinkOf V) →
     → IsLeastLabelFrom Q root v label
 label-over P Q same root v label least = record {
   walk = least.walk;
-  is_walk = IsWalk-along P Q (λ link has. (same link).0 has) root least.walk v least.is_walk;
+  is_walk = walk_wider P Q (λ link has. (same link).0 has) root least.walk v least.is_walk;
   label_is = least.label_is;
-  least = λ other is_walk. least.least other (IsWalk-along Q P (λ link has. (same link).1 has) root other v is_walk);
+  least = λ other is_walk. least.least other (walk_wider Q P (λ link has. (same link).1 has) root other v is_walk);
 }
 
 -- links that end a least walk

@@ -2,6 +2,7 @@ pub mod Roles
 pub mod Tables
 pub mod Files
 pub mod Contents
+pub mod Together
 pub mod Refusals
 pub mod Pairs
 pub mod Costs
@@ -18,8 +19,11 @@ pub mod DijkstraCost
 pub mod DijkstraCostMatrix
 pub mod DrivingDistance
 pub mod WithPoints
+pub mod Trsp
 pub mod Ksp
 pub mod Contraction
+pub mod Notes
+pub mod AStar
 pub mod Flows
 pub mod MaxFlow
 pub mod EdmondsKarp
@@ -30,5 +34,7 @@ pub mod Found
 pub mod Reading
 pub mod Gathering
 pub mod Finding
+pub mod Noting
+pub mod AllowedRoutes
 pub mod Rooted
 pub mod FlowNetworks

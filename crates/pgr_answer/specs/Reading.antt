@@ -4,7 +4,7 @@ use Rattle.pgr_table.specs.declared.fault.TableFault.{TableFault}
 use Rattle.pgr_table.specs.declared.fault.TableRefused.{TableRefused}
 use Rattle.pgr_table.specs.declared.fault.TableRefused.TheVariants.{Fault, Memory}
 use Rattle.pgr_answer.specs.declared.tables.Tables.{Tables}
-use Rattle.pgr_answer.specs.Contents.{after, with_content}
+use Rattle.pgr_answer.specs.Contents.{with_content}
 use Rattle.pgr_answer.specs.Files.{File, Content, AreAccepted}
 
 -- a table was read: by this verdict its rows are in their place, or the verdict is the fault that refuses it

@@ -7,7 +7,7 @@ use pgr_walks::NamedLink;
 pub struct Answered {
     /// The rows of the result table.
     pub rows: Rows,
-    /// What is said beside the rows; no function gives notes yet.
+    /// What is said beside the rows: by `pgr_aStar`, for each start whose estimate isn't consistent, by rising start.
     pub notes: Listed<Note>,
 }
 

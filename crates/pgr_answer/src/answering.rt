@@ -1,14 +1,21 @@
-ghost use Rattle.std.specs.Prelude.{◌≡◌, ◌≢◌, ◌⊎◌, [], All, IfOk, IfErr, IsOk, IsErrOf};
+ghost use Rattle.std.specs.Prelude.{◌≡◌, ◌≢◌, ◌⊎◌, [], None, All, IfOk, OnOk, IfErr, IsOk, IsErrOf};
+ghost use Rattle.std.specs.Result.{result_err};
 ghost use Rattle.pgr_outside.specs.Faults.{NoneFell};
 ghost use Rattle.pgr_words.specs.WellFormed.{IsWellFormed};
 ghost use Rattle.pgr_answer.specs.Files.{files_of, IsKnownAccepted};
-ghost use Rattle.pgr_answer.specs.Refusals.{HoldsAmong, IsFirstRefusal};
-ghost use Rattle.pgr_answer.specs.Allowed.{IsAllowed, AnswersCommand};
+ghost use Rattle.pgr_answer.specs.Refusals.{RefusesCommand, IsFirstRefusal, AreAcceptedTogether};
+ghost use Rattle.pgr_answer.specs.Together.{refusal_together};
+ghost use Rattle.pgr_words.specs.Factors.{IsFactor};
+ghost use Rattle.pgr_table.specs.Edges.{HasPlaces};
+ghost use Rattle.pgr_answer.specs.Roles.{kind_of_edges};
+ghost use Rattle.pgr_answer.specs.declared.role.Kind.TheVariants as kind;
+ghost use Rattle.pgr_answer.specs.Allowed.{IsAllowed, AreNotesOver, AnswersCommand};
 ghost use Rattle.pgr_answer.specs.declared.role.Role.{Role as ARole};
 ghost use Rattle.pgr_answer.specs.declared.refused.Refused.{Refused as ARefused};
 
-use crate::answered::Answered;
+use crate::answered::{Answered, Note};
 use crate::articulation_points::articulation_points_rows;
+use crate::astar::astar_rows;
 use crate::biconnected_components::biconnected_components_rows;
 use crate::bridges::bridges_rows;
 use crate::components::{connected_components_rows, strong_components_rows};
@@ -23,19 +30,25 @@ use crate::max_flow::max_flow_rows;
 use crate::min_cut::min_cut_rows;
 use crate::reading::read_tables;
 use crate::refused::Refused;
+use crate::role::Role;
 use crate::tables::Tables;
+use crate::trsp::trsp_rows;
 use crate::with_points::with_points_rows;
+use pgr_graph::restricted_sum;
 use pgr_outside::{Listed, NoMemory, Store};
 use pgr_rows::Rows;
-use pgr_words::{Command, Function};
+use pgr_words::{Command, Function, fields_of_well_formed_commands_are_in_form};
 use std::alloc::Global;
 
-/// Returns the rows that answer a well-formed command over the files of a store, or the first cause why there are none.
+/// Returns the rows and notes that answer a well-formed command over the files of a store, or the first cause why there are
+/// none.
 ///
-/// The files that the command names are read and judged in order, each whole before the next, the edges and then the
-/// combinations; a file that two options name is read twice. See [`Refused`] for the causes. Rows come only where every
-/// file has a content, the known one where it is known, that is an accepted table; they are allowed over these tables.
-/// `Memory` may come at any call. Reading changes no content.
+/// The files that the command names are read and judged in order, each whole before the next: edges, points, restrictions,
+/// combinations; a file that two options name is read twice. Then the restrictions are judged over the costs of the links.
+/// See [`Refused`] for the causes. Rows come only where every file has a content, the known one where it is known, that is
+/// an accepted table, and these tables are accepted together; they are allowed over these tables. Notes are those of
+/// `pgr_aStar`: for each start of an asked pair whose estimate isn't consistent, by rising start, the first link that breaks
+/// it. `Memory` may come at any call. Reading changes no content.
 pub fn answer<S: Store>(
     alloc: Global,
     command: &Command,
@@ -43,16 +56,16 @@ pub fn answer<S: Store>(
 ) -> Result<Answered, Refused>
     requires { IsWellFormed command.now }
 
-    // The files have contents that are accepted, the known ones where they are known, and the rows are allowed over the tables that they are.
-    ensures allowed { IfOk result (λ answered. AnswersCommand command.now (S.content store.old) answered.rows) }
-    ensures notes { IfOk result (λ answered. answered.notes ≡ []) }
+    // The files have contents that are accepted, the known ones where they are known; over the tables that they are the rows are allowed, and the notes
+    // are exactly those of the command.
+    ensures allowed { IfOk result (λ answered. AnswersCommand command.now (S.content store.old) answered.rows answered.notes) }
 
     // A refusal holds, and the first one by known contents is the answer, unless a read failed or memory ran out.
     ensures refused { IfErr result (λ refused. refused ≢ Refused.Memory
-        → HoldsAmong (S.content store.old) (S.faults store.old) (S.faults store.new) (files_of command.now) refused) }
-    ensures first { (refused : ARefused) → IsFirstRefusal (S.content store.old) (files_of command.now) refused
+        → RefusesCommand (S.content store.old) (S.faults store.old) (S.faults store.new) command.now refused) }
+    ensures first { (refused : ARefused) → IsFirstRefusal (S.content store.old) command.now refused
         → IsErrOf result refused ⊎ IsErrOf result Refused.Memory ⊎ ((role : ARole) × IsErrOf result (Refused.ReadFailed role)) }
-    ensures completes { All (IsKnownAccepted (S.content store.old)) (files_of command.now)
+    ensures completes { All (IsKnownAccepted (S.content store.old)) (files_of command.now) → AreAcceptedTogether (S.content store.old) command.now
         → IsOk result ⊎ IsErrOf result Refused.Memory ⊎ ((role : ARole) × IsErrOf result (Refused.ReadFailed role)) }
 
     // What stays.
@@ -60,16 +73,40 @@ pub fn answer<S: Store>(
     ensures faults { NoneFell (S.faults store.old) (S.faults store.new) }
 {
     let tables = read_tables(alloc, command, store)?;
-    let rows = allowed_rows(alloc, command, &tables)?;
+    judge_together(command, &tables)?;
+    fields_of_well_formed_commands_are_in_form();
+    let mut notes = Vec::new(alloc);
+    let rows = allowed_rows(alloc, command, &tables, &mut notes)?;
     Ok(Answered {
         rows,
-        notes: Listed::from_vec(Vec::new(alloc)),
+        notes: Listed::from_vec(notes),
     })
 }
 
-/// The rows that answer a command over its tables.
-fn allowed_rows(alloc: Global, command: &Command, tables: &Tables) -> Result<Rows, NoMemory>
-    ensures { IfOk result (IsAllowed command.now tables.now) }
+/// The refusal of the tables of a command together, if they are refused: for restrictions that take the sum too far.
+fn judge_together(command: &Command, tables: &Tables) -> Result<(), Refused>
+    ensures { result_err result ≡ refusal_together command.now tables.now }
+{
+    match restricted_sum(&tables.edges, command.directed, &tables.restrictions) {
+        Ok(()) => Ok(()),
+        Err(fault) => Err(Refused::Table(Role::Restrictions, fault)),
+    }
+}
+
+/// The rows that answer a command over its tables, which are accepted together; the notes, of which there are none, become
+/// those that belong to them.
+fn allowed_rows(
+    alloc: Global,
+    command: &Command,
+    tables: &Tables,
+    notes: &mut Vec<Note>,
+) -> Result<Rows, NoMemory>
+    requires together { refusal_together command.now tables.now ≡ None }
+    requires factor { IsFactor command.now.factor }
+    requires places { kind_of_edges command.now.function ≡ kind.PlacedEdges → HasPlaces tables.now.edges }
+    requires none { notes.old.items ≡ [] }
+    ensures rows { IfOk result (IsAllowed command.now tables.now) }
+    ensures notes { OnOk result (AreNotesOver command.now tables.now notes.new.items) }
 {
     match command.function {
         Function::ConnectedComponents => connected_components_rows(alloc, tables),
@@ -82,8 +119,10 @@ fn allowed_rows(alloc: Global, command: &Command, tables: &Tables) -> Result<Row
         Function::DijkstraCostMatrix => dijkstra_cost_matrix_rows(alloc, command, tables),
         Function::DrivingDistance => driving_distance_rows(alloc, command, tables),
         Function::WithPoints => with_points_rows(alloc, command, tables),
+        Function::Trsp => trsp_rows(alloc, command, tables),
         Function::Ksp => ksp_table_rows(alloc, command, tables),
         Function::Contraction => contraction_rows(alloc, command, tables),
+        Function::AStar => astar_rows(alloc, command, tables, notes),
         Function::MaxFlow => max_flow_rows(alloc, command, tables),
         Function::EdmondsKarp => edmonds_karp_rows(alloc, command, tables),
         Function::MinCut => min_cut_rows(alloc, command, tables),

@@ -55,7 +55,7 @@ pub(crate) fn found_for<G: Graph, K: Kept>(
 }
 
 /// How many pairs, from the first one on, have its end.
-fn count_of_end(pairs: &[Pair]) -> usize
+pub(crate) fn count_of_end(pairs: &[Pair]) -> usize
     requires { pairs.now ≢ [] }
     ensures some { 0 < result }
     ensures within { result ≤ length pairs.now }
@@ -99,7 +99,7 @@ fn find_group<G: Graph, K: Kept>(
 }
 
 /// The starts of pairs, in order.
-fn starts_of(alloc: Global, pairs: &[Pair]) -> Result<Vec<u32>, NoMemory>
+pub(crate) fn starts_of(alloc: Global, pairs: &[Pair]) -> Result<Vec<u32>, NoMemory>
     ensures { IfOk result (λ starts. starts.items ≡ map (λ pair. pair.start) pairs.now) }
 {
     let mut starts = Vec::new(alloc);

@@ -2,18 +2,22 @@
 //!
 //! [`answer`] reads the files that a [`Command`](pgr_words::Command) names, each by its [`Role`], and returns the
 //! [`Answered`] rows and notes, or the first cause why there are none, a [`Refused`].
-//! Proved: where there are rows, every file has a content, the known one where it is known, that is an accepted table, and
-//! the rows are allowed for the command over the tables that these contents are (`allowed`); there are no notes (`notes`).
+//! Proved: where there are rows, every file has a content, the known one where it is known, that is an accepted table, these
+//! tables are accepted together, the rows are allowed for the command over them, and the notes are exactly those of the
+//! command over them (`allowed`).
 //! Every refusal but out of memory has its cause: a count of faults that rose, or a content of the file that is refused so,
-//! behind files whose contents are accepted (`refused`). Where a known content is refused, that is the answer, unless
-//! memory ran out or a read failed (`first`), and where all are known and accepted there are rows, with the same two
-//! exceptions (`completes`). Laws: one table at most is allowed, and one at most answers a command where all contents are
-//! known, but for the function that shows any greatest flow; the least walk has the least cost. Not proved: time, and that memory suffices.
+//! behind files whose contents are accepted; or all are, and the restrictions take the sum of the costs too far
+//! (`refused`). Where known contents are refused, that is the answer, unless memory ran out or a read failed (`first`), and
+//! where all are known and accepted there are rows, with the same two exceptions (`completes`). Laws: one table at most is
+//! allowed, but for the function that shows any greatest flow, and one list of notes, and one of each at most answers a
+//! command where all contents are known; the least walk has the least cost. Not proved: time, and that memory suffices.
 #![tactic(auto)]
 
 mod answered;
 mod answering;
 mod articulation_points;
+mod asked_starts;
+mod astar;
 mod biconnected_components;
 mod bridges;
 mod components;
@@ -27,6 +31,7 @@ mod driving_distance;
 mod edmonds_karp;
 mod flow_network;
 mod found;
+mod guided;
 mod kept;
 mod ksp;
 mod ksp_rows;
@@ -46,6 +51,7 @@ mod role;
 mod tables;
 #[cfg(test)]
 mod tests;
+mod trsp;
 mod with_points;
 
 pub use answered::{Answered, Note};

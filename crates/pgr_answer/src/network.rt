@@ -1,4 +1,5 @@
-ghost use Rattle.std.specs.Prelude.{◌≡◌, ◌↔◌, ℤ, Contains, IfOk};
+ghost use Rattle.std.specs.Prelude.{◌≡◌, ◌↔◌, ◌<◌, ◌^◌, ℤ, length, Contains, IfOk};
+ghost use Rattle.pgr_outside.specs.Lists.{IsWithoutRepeats};
 ghost use Rattle.pgr_walks.specs.declared.link.LinkOf.{LinkOf};
 ghost use Rattle.pgr_graph.specs.Links.{IsLinkOfTable};
 ghost use Rattle.pgr_answer.specs.Networks.{IsNetworkOf};
@@ -31,6 +32,8 @@ pub(crate) fn network_of(
 ) -> Result<Network<RowGraph>, NoMemory>
     ensures links { IfOk result (λ network. (link : LinkOf ℤ) → Contains network.links.items link ↔ IsLinkOfTable edges.now directed link) }
     ensures network { IfOk result (IsNetworkOf ⟦<RowGraph as Graph>⟧) }
+    ensures once { IfOk result (λ network. IsWithoutRepeats network.links.items) }
+    ensures few { IfOk result (λ network. length network.names < 2 ^ 31) }
 {
     // From this call it is known that a table has few enough rows for its names to be numbered.
     let _rows = edges.len();

@@ -46,7 +46,7 @@ pub(crate) fn numbers_of(alloc: Global, names: &Names, ids: &[i64]) -> Result<Ve
 }
 
 /// Adds the number of an id, if it is a name.
-fn push_number(numbers: &mut Vec<u32>, names: &Names, id: i64) -> Result<(), NoMemory>
+pub(crate) fn push_number(numbers: &mut Vec<u32>, names: &Names, id: i64) -> Result<(), NoMemory>
     ensures { OnOk result (GainsNumber names.now id numbers.old.items numbers.new.items) }
 {
     names.len();

@@ -1,5 +1,7 @@
-ghost use Rattle.std.specs.Prelude.{◌≡◌, IfOk, OnOk, IfErr};
+ghost use Rattle.std.specs.Prelude.{◌≡◌, ◌≢◌, IfOk, OnOk, IfErr};
 ghost use Rattle.pgr_outside.specs.Faults.{NoneFell};
+ghost use Rattle.pgr_table.specs.Edges.{HasPlaces};
+ghost use Rattle.pgr_answer.specs.Roles.{kind_of, kind_of_edges};
 ghost use Rattle.pgr_answer.specs.Files.{files_with, files_of};
 ghost use Rattle.pgr_answer.specs.Reading.{AreRead};
 ghost use Rattle.pgr_answer.specs.Refusals.{HoldsAmong, from_read, from_table};
@@ -28,6 +30,7 @@ pub(crate) fn read_tables<S: Store>(
     ensures refused { IfErr result (HoldsAmong (S.content store.old) (S.faults store.old) (S.faults store.new) (files_of command.now)) }
     ensures content { S.content store.new ≡ S.content store.old }
     ensures faults { NoneFell (S.faults store.old) (S.faults store.new) }
+    ensures places { IfOk result (λ tables. kind_of_edges command.now.function ≡ Kind.PlacedEdges → HasPlaces tables.edges) }
 {
     let mut tables = Tables::empty(alloc);
     for role in roles() {
@@ -48,6 +51,7 @@ fn read_role<S: Store>(
     ensures refused { IfErr result (HoldsAmong (S.content store.old) (S.faults store.old) (S.faults store.new) (files_with command.now role)) }
     ensures content { S.content store.new ≡ S.content store.old }
     ensures faults { NoneFell (S.faults store.old) (S.faults store.new) }
+    ensures places { kind_of command.now.function role ≢ Kind.Edges → HasPlaces tables.old.edges → HasPlaces tables.new.edges }
 {
     let Some(name) = role.file_name(command) else {
         return Ok(());

@@ -5,8 +5,9 @@ use thiserror::Error;
 
 /// Why there are no rows: the first cause, in this order.
 ///
-/// The files that the command names are read in order, the edges and then the combinations. Each is read whole, then it
-/// is judged, and only then the next one is read.
+/// The files that the command names are read in order: edges, points, restrictions, combinations. Each is read whole, then
+/// it is judged, and only then the next one is read. After the last one the restrictions are judged over the costs of the
+/// links: see [`restricted_sum`](pgr_graph::restricted_sum).
 #[derive(Clone, Copy, Debug, PartialEq, Eq, Drop, Error)]
 pub enum Refused {
     /// A read of the file with this role failed: only where the count of faults of its name rose in this call.
@@ -15,7 +16,8 @@ pub enum Refused {
     /// The file with this role has more than 268,435,456 bytes.
     #[error("{0}: file too long")]
     TooLong(Role),
-    /// The file with this role isn't an accepted table: its first fault.
+    /// The file with this role isn't an accepted table: its first fault; or all are, and the restrictions have a record that
+    /// takes the sum too far: `CostSum`, of restrictions.
     #[error("{0}: {1}")]
     Table(Role, TableFault),
     /// Out of memory.

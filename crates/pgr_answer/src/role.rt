@@ -11,11 +11,18 @@ pub enum Role {
     Edges,
     /// The table of points on edges.
     Points,
+    /// The table of restrictions.
+    Restrictions,
     /// The table of asked pairs.
     Combinations,
 }
 
-const ROLES: [Role; 3] = [Role::Edges, Role::Points, Role::Combinations];
+const ROLES: [Role; 4] = [
+    Role::Edges,
+    Role::Points,
+    Role::Restrictions,
+    Role::Combinations,
+];
 
 /// The roles, in the order in which their files are read.
 pub(crate) fn roles() -> &'static [Role]
@@ -32,6 +39,7 @@ impl Role {
         match self {
             Role::Edges => "edges",
             Role::Points => "points",
+            Role::Restrictions => "restrictions",
             Role::Combinations => "combinations",
         }
     }
@@ -43,6 +51,10 @@ impl Role {
         match self {
             Role::Edges => Some(command.edges.as_str()),
             Role::Points => match &command.points {
+                Some(name) => Some(name.as_str()),
+                None => None,
+            },
+            Role::Restrictions => match &command.restrictions {
                 Some(name) => Some(name.as_str()),
                 None => None,
             },
@@ -67,8 +79,12 @@ pub(crate) enum Kind {
     Edges,
     /// A table of points on edges.
     Points,
+    /// A table of restrictions.
+    Restrictions,
     /// A table of asked pairs.
     Combinations,
+    /// A table of edges with places.
+    PlacedEdges,
     /// A table of edges with capacities.
     Capacities,
 }
@@ -81,6 +97,7 @@ impl Kind {
         match role {
             Role::Edges => Kind::of_edges(function),
             Role::Points => Kind::Points,
+            Role::Restrictions => Kind::Restrictions,
             Role::Combinations => Kind::Combinations,
         }
     }
@@ -90,6 +107,7 @@ impl Kind {
         ensures { result ≡ kind_of_edges function }
     {
         match function {
+            Function::AStar => Kind::PlacedEdges,
             Function::MaxFlow => Kind::Capacities,
             Function::EdmondsKarp => Kind::Capacities,
             Function::MinCut => Kind::Capacities,

@@ -1,11 +1,12 @@
-ghost use Rattle.std.specs.Prelude.{◌≡◌};
+ghost use Rattle.std.specs.Prelude.{◌≡◌, ◌≢◌};
+ghost use Rattle.pgr_table.specs.Edges.{HasPlaces};
 ghost use Rattle.pgr_answer.specs.Tables.{no_tables, judged_as};
 ghost use Rattle.pgr_answer.specs.Reading.{IsTableRead};
 
 use crate::role::Kind;
 use pgr_table::{
-    CapacityTable, EdgeTable, PairTable, PointTable, TableRefused, read_capacities,
-    read_combinations, read_edges, read_points,
+    CapacityTable, EdgeTable, PairTable, PointTable, RestrictionTable, TableRefused,
+    read_capacities, read_combinations, read_edges, read_points, read_restrictions,
 };
 use std::alloc::Global;
 
@@ -16,6 +17,8 @@ pub(crate) struct Tables {
     pub edges: EdgeTable,
     /// The points on edges.
     pub points: PointTable,
+    /// The restrictions.
+    pub restrictions: RestrictionTable,
     /// The asked pairs.
     pub combinations: PairTable,
     /// The edges with capacities.
@@ -30,6 +33,7 @@ impl Tables {
         Tables {
             edges: EdgeTable::empty(alloc),
             points: PointTable::empty(alloc),
+            restrictions: RestrictionTable::empty(alloc),
             combinations: PairTable::empty(alloc),
             capacities: CapacityTable::empty(alloc),
         }
@@ -37,19 +41,22 @@ impl Tables {
 
     /// Reads bytes as a table of this kind, which takes the place of the one before.
     ///
-    /// Where it is refused the tables stay as they are.
+    /// Where it is refused the tables stay as they are. Edges that are read with places have them.
     pub(crate) fn read(
         &mut self,
         alloc: Global,
         kind: Kind,
         bytes: &[u8],
     ) -> Result<(), TableRefused>
-        ensures { IsTableRead result (judged_as kind bytes.now) self.old self.new }
+        ensures read { IsTableRead result (judged_as kind bytes.now) self.old self.new }
+        ensures places { kind ≢ Kind.Edges → HasPlaces self.old.edges → HasPlaces self.new.edges }
     {
         match kind {
             Kind::Edges => self.edges = read_edges(alloc, bytes, false)?,
             Kind::Points => self.points = read_points(alloc, bytes)?,
+            Kind::Restrictions => self.restrictions = read_restrictions(alloc, bytes)?,
             Kind::Combinations => self.combinations = read_combinations(alloc, bytes)?,
+            Kind::PlacedEdges => self.edges = read_edges(alloc, bytes, true)?,
             Kind::Capacities => self.capacities = read_capacities(alloc, bytes)?,
         }
         Ok(())

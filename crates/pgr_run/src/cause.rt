@@ -12,7 +12,8 @@ use pgr_words::{WordFault, WordsRefused};
 pub enum Cause {
     /// The words aren't a command: the first rule that they break.
     Words(WordFault),
-    /// There is no answer: the first of the files that is refused, or it is out of memory, at any call up to the writing.
+    /// There is no answer: the first of the files that is refused, or the refusal of their tables together, or it is out of
+    /// memory, at any call up to the writing.
     Refused(Refused),
     /// A write to the output failed: only where its count of faults rose.
     WriteFailed,

@@ -2,9 +2,10 @@
 use Rattle.std.proofs.Common.{◌≡◌, [], ◌∷◌, Some, None, Ok, Err, true, false, pos, negsuc, codes, refl}
 use Rattle.pgr_outside.specs.declared.side.Side.TheVariants.{B}
 use Rattle.pgr_words.specs.declared.function.Function.TheVariants.{Dijkstra, DijkstraCostMatrix}
-use Rattle.pgr_words.specs.declared.option.OptionName.TheVariants.{Edges, Start, End, Directed, Distance}
+use Rattle.pgr_words.specs.declared.option.OptionName.TheVariants.{Edges, Start, End, Directed, Distance, Heuristic, Factor}
 use Rattle.pgr_words.specs.declared.estimate.Heuristic.TheVariants.{H5}
 use Rattle.pgr_words.specs.declared.fault.WordFault.TheVariants.{NoFunction, UnknownFunction, BadWord, UnknownOption, RepeatedOption, BadValue, MissingOption}
+use Rattle.pgr_words.specs.Forms.{factor}
 use Rattle.pgr_words.specs.Commands.{command_of}
 
 -- the first word names the function
@@ -155,3 +156,26 @@ no_distance = refl
 
 pub driving_combinations : command_of (codes "pgr_drivingDistance" ∷ codes "--combinations=p" ∷ []) ≡ Err (UnknownOption 2)
 driving_combinations = refl
+
+-- a heuristic is one digit from 0 to 5, without a zero in front
+pub two_digits : command_of (codes "pgr_aStar" ∷ codes "--heuristic=05" ∷ []) ≡ Err (BadValue Heuristic)
+two_digits = refl
+
+pub no_such_heuristic : command_of (codes "pgr_aStar" ∷ codes "--heuristic=6" ∷ []) ≡ Err (BadValue Heuristic)
+no_such_heuristic = refl
+
+-- a factor has parts from 1 on, and a slash has a part on either side
+pub factor_of_nothing : command_of (codes "pgr_aStar" ∷ codes "--factor=0" ∷ []) ≡ Err (BadValue Factor)
+factor_of_nothing = refl
+
+pub no_denominator : command_of (codes "pgr_aStar" ∷ codes "--factor=1/" ∷ []) ≡ Err (BadValue Factor)
+no_denominator = refl
+
+pub too_great_a_factor : command_of (codes "pgr_aStar" ∷ codes "--factor=1000001" ∷ []) ≡ Err (BadValue Factor)
+too_great_a_factor = refl
+
+pub three_halves : factor (codes "3/002") ≡ Some (record { over = 3; under = 2 })
+three_halves = refl
+
+pub whole_factor : factor (codes "1000000") ≡ Some (record { over = 1000000; under = 1 })
+whole_factor = refl

@@ -1,21 +1,24 @@
 -- The fields of a well-formed command hold values in their forms.
 use Rattle.std.proofs.Common.{◌≡◌, ℕ, ◌<◌, ◌≤◌, Bool, true, false, ◌&&◌, ◌||◌, not, cond, if◌then◌else◌, List, [], ◌∷◌, length, ℤ, Option, Some, None, IfSome, ◌⊎◌, inl, inr, refl, subst, sym, ap, arith}
 use Rattle.std.specs.Prelude.{nat_lt, nat_le}
-use Rattle.std.specs.Option.{option_map, is_some, unwrap_or}
+use Rattle.std.specs.Option.{option_map, option_and_then, is_some, unwrap_or}
 use Rattle.std.specs.List.{fold, list_all, All}
 use Rattle.std.specs.Map.{lookup}
 use Rattle.std.specs.Str.{bytes_eq}
 use Rattle.std.proofs.lemmas.Bool.{ltb-true, leb-true}
 use Rattle.std.proofs.lemmas.List.Elements.{All-head, All-tail}
 use Rattle.std.specs.Str.Parse.{digits_value}
-use Rattle.pgr_numerals.specs.Numeral.{is_digit}
+use Rattle.pgr_numerals.specs.Numeral.{is_digit, digits_up_to}
 use Rattle.pgr_numerals.specs.NumeralList.{i64_list_of}
 use Rattle.pgr_numerals.specs.NumeralListLaws.{length-i64_list_of}
 use Rattle.pgr_words.specs.declared.option.OptionName.{OptionName}
 use Rattle.pgr_words.specs.declared.option.OptionName.TheVariants as option
 use Rattle.pgr_words.specs.declared.command.Command.{Command}
 use Rattle.pgr_words.specs.Rising.{rising}
-use Rattle.pgr_words.specs.Forms.{file_name, ids, distance}
+use Rattle.pgr_words.specs.Forms.{file_name, ids, distance, part_of_factor, is_slash, parts_round, factor_of, factor_in, factor}
+use Rattle.pgr_words.specs.Factors.{IsFactor}
+use Rattle.pgr_words.specs.declared.estimate.Heuristic.TheVariants.{H5}
+use Rattle.pgr_words.specs.declared.estimate.Factor.{Factor}
 use Rattle.pgr_words.specs.Options.{rule_of, is_same, is_in_form}
 use Rattle.pgr_words.specs.Functions.{functions, is_among}
 use Rattle.pgr_words.specs.Words.{options_in, is_needed, first_missing}
@@ -53,19 +56,60 @@ ids_are text list = by (i64_list_of 65536 text) refl
           at_most = omega (arith, length-rising numbers, (length-i64_list_of 65536 text numbers is).1);
         })
 
--- a distance in its form
-distance_is : (text : List ℕ) (number : ℕ) → distance text ≡ Some number → number ≤ 9223372036854775807
-distance_is [] number = λ e. absurd cc
-distance_is (byte ∷ bytes) number = by (list_all is_digit (byte ∷ bytes)) (nat_le (digits_value 10 (byte ∷ bytes)) 9223372036854775807)
-    (leb-true (digits_value 10 (byte ∷ bytes)) 9223372036854775807)
+-- digits up to a number are at most it
+digits_are : (most : ℕ) (text : List ℕ) (number : ℕ) → digits_up_to most text ≡ Some number → number ≤ most
+digits_are most [] number = λ e. absurd cc
+digits_are most (byte ∷ bytes) number = by (list_all is_digit (byte ∷ bytes)) (nat_le (digits_value 10 (byte ∷ bytes)) most)
+    (leb-true (digits_value 10 (byte ∷ bytes)) most)
   where
     by : (a b : Bool)
-        → (b ≡ true → digits_value 10 (byte ∷ bytes) ≤ 9223372036854775807)
+        → (b ≡ true → digits_value 10 (byte ∷ bytes) ≤ most)
         → (if a && b then Some (digits_value 10 (byte ∷ bytes)) else None) ≡ Some number
-        → number ≤ 9223372036854775807
-    by true true few e = let same : digits_value 10 (byte ∷ bytes) ≡ number = cc in subst (λ n. n ≤ 9223372036854775807) same (few refl)
+        → number ≤ most
+    by true true few e = let same : digits_value 10 (byte ∷ bytes) ≡ number = cc in subst (λ n. n ≤ most) same (few refl)
     by true false few e = cc
     by false b few e = cc
+
+-- a distance in its form
+distance_is : (text : List ℕ) (number : ℕ) → distance text ≡ Some number → number ≤ 9223372036854775807
+distance_is text number = digits_are 9223372036854775807 text number
+
+-- a part of a factor in its form
+part_is : (text : List ℕ) (number : ℕ) → part_of_factor text ≡ Some number → (1 ≤ number) × (number ≤ 1000000)
+part_is text number = by (digits_up_to 1000000 text) refl
+  where
+    by : (found : Option ℕ) → digits_up_to 1000000 text ≡ found → option_and_then (λ n. if nat_lt 0 n then Some n else None) found ≡ Some number → (1 ≤ number) × (number ≤ 1000000)
+    by None is e = cc
+    by (Some n) is e = at (nat_lt 0 n) (ltb-true 0 n) e
+      where
+        at : (b : Bool) → (b ≡ true → 0 < n) → (if b then Some n else None) ≡ Some number → (1 ≤ number) × (number ≤ 1000000)
+        at true some e = let same : n ≡ number = cc in (let one = some refl in omega arith, subst (λ k. k ≤ 1000000) same (digits_are 1000000 text n is))
+        at false some e = cc
+
+-- a factor of two parts in their form
+factor_of_is : (over under : Option ℕ) (factor : Factor)
+    → ((n : ℕ) → over ≡ Some n → (1 ≤ n) × (n ≤ 1000000))
+    → ((n : ℕ) → under ≡ Some n → (1 ≤ n) × (n ≤ 1000000))
+    → factor_of over under ≡ Some factor
+    → IsFactor factor
+factor_of_is None under factor p q e = absurd cc
+factor_of_is (Some n) None factor p q e = absurd cc
+factor_of_is (Some n) (Some d) factor p q e =
+    let same : record { over = n; under = d } ≡ factor = cc in
+    let over = p n refl in
+    let under = q d refl in
+    subst IsFactor same (record { over_least = over.0; over_most = over.1; under_least = under.0; under_most = under.1 })
+
+-- a factor in its form
+factor_is : (text : List ℕ) (fraction : Factor) → factor text ≡ Some fraction → IsFactor fraction
+factor_is text fraction = by (parts_round is_slash text)
+  where
+    one : (n : ℕ) → Some 1 ≡ Some n → (1 ≤ n) × (n ≤ 1000000)
+    one n e = let same : 1 ≡ n = cc in (omega arith, omega arith)
+
+    by : (parts : Option (List ℕ × List ℕ)) → factor_in text parts ≡ Some fraction → IsFactor fraction
+    by (Some parts) e = factor_of_is _ _ fraction (part_is parts.0) (part_is parts.1) e
+    by None e = factor_of_is _ (Some 1) fraction (part_is text) one e
 
 no_ids : AreIds []
 no_ids = record { rises = λ i j d before inside. absurd (omega arith); at_most = omega arith }
@@ -74,14 +118,16 @@ no_ids = record { rises = λ i j d before inside. absurd (omega arith); at_most 
 
 abbrev Holds : Command → Type 0
 Holds command = IfSome command.combinations IsFileName × AreIds command.starts × AreIds command.ends × AreIds command.vids × (command.distance ≤ 9223372036854775807)
+    × IsFactor command.factor
 
 -- one option more
 holds_with : (o : OptionName) (text : List ℕ) (command : Command) → Holds command → Holds (with_given command (o, text))
-holds_with option.Combinations text = field_keeps Holds (file_name text) _ (λ name is c h. (file_is text name is, h.1, h.2, h.3, h.4))
-holds_with option.Start text = field_keeps Holds (ids text) _ (λ list is c h. (h.0, ids_are text list is, h.2, h.3, h.4))
-holds_with option.End text = field_keeps Holds (ids text) _ (λ list is c h. (h.0, h.1, ids_are text list is, h.3, h.4))
-holds_with option.Vids text = field_keeps Holds (ids text) _ (λ list is c h. (h.0, h.1, h.2, ids_are text list is, h.4))
-holds_with option.Distance text = field_keeps Holds (distance text) _ (λ number is c h. (h.0, h.1, h.2, h.3, distance_is text number is))
+holds_with option.Combinations text = field_keeps Holds (file_name text) _ (λ name is c h. (file_is text name is, h.1, h.2, h.3, h.4, h.5))
+holds_with option.Start text = field_keeps Holds (ids text) _ (λ list is c h. (h.0, ids_are text list is, h.2, h.3, h.4, h.5))
+holds_with option.End text = field_keeps Holds (ids text) _ (λ list is c h. (h.0, h.1, ids_are text list is, h.3, h.4, h.5))
+holds_with option.Vids text = field_keeps Holds (ids text) _ (λ list is c h. (h.0, h.1, h.2, ids_are text list is, h.4, h.5))
+holds_with option.Distance text = field_keeps Holds (distance text) _ (λ number is c h. (h.0, h.1, h.2, h.3, distance_is text number is, h.5))
+holds_with option.Factor text = field_keeps Holds (factor text) _ (λ fraction is c h. (h.0, h.1, h.2, h.3, h.4, factor_is text fraction is))
 holds_with _ text = field_keeps Holds _ _ (λ x is c h. h)
 
 -- all of them
@@ -334,6 +380,20 @@ equicost_left : (o : OptionName) (text : List ℕ) (command : Command)
 equicost_left option.Equicost text command other h = cc
 equicost_left _ text command other h = field_keeps (λ c. c.equicost ≡ false) _ _ (λ x is c h. h) command h
 
+heuristic_left : (o : OptionName) (text : List ℕ) (command : Command)
+    → is_same o option.Heuristic ≡ false
+    → command.heuristic ≡ H5
+    → (with_given command (o, text)).heuristic ≡ H5
+heuristic_left option.Heuristic text command other h = cc
+heuristic_left _ text command other h = field_keeps (λ c. c.heuristic ≡ H5) _ _ (λ x is c h. h) command h
+
+factor_left : (o : OptionName) (text : List ℕ) (command : Command)
+    → is_same o option.Factor ≡ false
+    → command.factor ≡ record { over = 1; under = 1 }
+    → (with_given command (o, text)).factor ≡ record { over = 1; under = 1 }
+factor_left option.Factor text command other h = cc
+factor_left _ text command other h = field_keeps (λ c. c.factor ≡ record { over = 1; under = 1 }) _ _ (λ x is c h. h) command h
+
 -- ---- a command
 
 -- without combinations in the command none are given
@@ -342,7 +402,8 @@ none_given : (options : List OptionName) (command : Command) (givens : List (Opt
     → (fold with_given command givens).combinations ≡ None
     → not (is_among (options_in givens) option.Combinations) ≡ true
 none_given options command givens good none =
-    by (is_among (options_in givens) option.Combinations) (λ among. brought HasCombinations option.Combinations combinations_stay combinations_come options command givens good (inl among))
+    by (is_among (options_in givens) option.Combinations) (λ among. brought HasCombinations option.Combinations combinations_stay combinations_come options command givens good
+    (inl among))
   where
     by : (b : Bool) → (b ≡ true → HasCombinations (fold with_given command givens)) → not b ≡ true
     by false some = refl
@@ -351,7 +412,8 @@ none_given options command givens good none =
 pub in_form : (command : Command) (well : IsWellFormed command) → AreInForm well.options command
 in_form command well =
     let begin = defaults command.function in
-    let holds = holds_after begin well.given (tt, no_ids, no_ids, no_ids, omega arith) in
+    let holds = holds_after begin well.given
+    (tt, no_ids, no_ids, no_ids, omega arith, record { over_least = omega arith; over_most = omega arith; under_least = omega arith; under_most = omega arith }) in
     let has_edges = looked_up (bytes_eq well.name) (λ row. is_among row.1 option.Edges) functions (command.function, well.options) each_has_edges well.function in
     let stood = options_in well.given in
     let edges = none_missing well.options stood option.Edges edges_alike well.complete refl has_edges in
@@ -362,6 +424,7 @@ in_form command well =
       ends = holds.2;
       vids = holds.3;
       distance = holds.4;
+      factor = holds.5;
       starts_needed = λ has none. brought HasStarts option.Start starts_stay starts_come well.options begin well.given well.good
           (inl (none_missing well.options stood option.Start starts_alike well.complete (none_given well.options begin well.given well.good none) has));
       ends_needed = λ has none. brought HasEnds option.End ends_stay ends_come well.options begin well.given well.good
@@ -375,5 +438,7 @@ in_form command well =
       directed_unused = λ absent. left_alone (λ c. c.directed ≡ true) option.Directed directed_left well.options begin well.given well.good absent refl;
       distance_unused = λ absent. left_alone (λ c. c.distance ≡ 0) option.Distance distance_left well.options begin well.given well.good absent refl;
       equicost_unused = λ absent. left_alone (λ c. c.equicost ≡ false) option.Equicost equicost_left well.options begin well.given well.good absent refl;
+      heuristic_unused = λ absent. left_alone (λ c. c.heuristic ≡ H5) option.Heuristic heuristic_left well.options begin well.given well.good absent refl;
+      factor_unused = λ absent. left_alone (λ c. c.factor ≡ record { over = 1; under = 1 }) option.Factor factor_left well.options begin well.given well.good absent refl;
     } in
     subst (AreInForm well.options) (sym well.fields) made

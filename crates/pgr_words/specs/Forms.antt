@@ -1,6 +1,8 @@
 -- The forms of values: what the text behind an option's equals sign stands for, if it is in the form, and what a reader of a form answers.
-use Rattle.std.specs.Prelude.{◌≡◌, ℕ, Bool, true, false, ◌&&◌, if◌then◌else◌, nat_lt, nat_le, List, length, map, codes, ℤ, Option, Some, None, option_map, Result, Ok, Err}
-use Rattle.std.specs.List.{slice_split}
+use Rattle.std.specs.Prelude.{◌≡◌, ℕ, Bool, true, false, ◌&&◌, if◌then◌else◌, ◌==◌, nat_lt, nat_le, List, [], ◌∷◌, length, map, codes, ℤ, Option, Some, None}
+use Rattle.std.specs.Prelude.{option_map, option_and_then, Result, Ok, Err}
+use Rattle.std.specs.List.{slice_split, list_any, before_first, after_first}
+use Rattle.std.specs.Map.{lookup}
 use Rattle.std.specs.Str.{bytes_eq}
 use Rattle.pgr_outside.specs.declared.side.Side.{Side}
 use Rattle.pgr_outside.specs.declared.side.Side.TheVariants.{B, R, L}
@@ -8,8 +10,12 @@ use Rattle.pgr_numerals.specs.Numeral.{digits_up_to}
 use Rattle.pgr_numerals.specs.NumeralList.{is_comma, all_of, i64_list_of}
 use Rattle.pgr_words.specs.declared.method.Method.{Method}
 use Rattle.pgr_words.specs.declared.method.Method.TheVariants.{DeadEnd, Linear}
+use Rattle.pgr_words.specs.declared.estimate.Heuristic.{Heuristic}
+use Rattle.pgr_words.specs.declared.estimate.Heuristic.TheVariants.{H0, H1, H2, H3, H4, H5}
+use Rattle.pgr_words.specs.declared.estimate.Factor.{Factor}
 use Rattle.pgr_words.specs.declared.value.ValueRefused.{ValueRefused}
 use Rattle.pgr_words.specs.declared.value.ValueRefused.TheVariants.{Form, Memory}
+use Rattle.pgr_words.specs.Factors.{most_of_factor}
 use Rattle.pgr_words.specs.Rising.{rising}
 
 -- the most bytes of a file name
@@ -70,6 +76,35 @@ method text = if bytes_eq text (codes "1") then Some DeadEnd else (if bytes_eq t
 -- an order: 1 to 64 methods joined by commas, as they stand
 abbrev pub order : List ℕ → Option (List Method)
 order text = if nat_le (length (slice_split is_comma text)) most_methods then all_of (map method (slice_split is_comma text)) else None
+
+-- a heuristic: one digit from 0 to 5
+abbrev pub heuristic : List ℕ → Option Heuristic
+heuristic text = lookup (bytes_eq text) ((codes "0", H0) ∷ (codes "1", H1) ∷ (codes "2", H2) ∷ (codes "3", H3) ∷ (codes "4", H4) ∷ (codes "5", H5) ∷ [])
+
+-- a part of a factor: digits alone, from 1 to 1,000,000
+abbrev pub part_of_factor : List ℕ → Option ℕ
+part_of_factor text = option_and_then (λ n. if nat_lt 0 n then Some n else None) (digits_up_to most_of_factor text)
+
+-- a byte is a slash
+abbrev pub is_slash : ℕ → Bool
+is_slash byte = byte == 47
+
+-- a factor of two parts
+abbrev pub factor_of : Option ℕ → Option ℕ → Option Factor
+factor_of over under = option_and_then (λ n. option_map (λ d. record { over = n; under = d }) under) over
+
+-- what stands before the first byte that passes, and what behind it, if one does
+abbrev pub parts_round : (ℕ → Bool) → List ℕ → Option (List ℕ × List ℕ)
+parts_round passes text = if list_any passes text then Some (before_first passes text, after_first passes text) else None
+
+-- a factor of a text with these parts round its first slash
+abbrev pub factor_in : List ℕ → Option (List ℕ × List ℕ) → Option Factor
+factor_in text None = factor_of (part_of_factor text) (Some 1)
+factor_in text (Some parts) = factor_of (part_of_factor parts.0) (part_of_factor parts.1)
+
+-- a factor: a numerator, or a numerator, a slash and a denominator, which is 1 where it is absent
+abbrev pub factor : List ℕ → Option Factor
+factor text = factor_in text (parts_round is_slash text)
 
 -- the answer of a reader is what the text stands for, or that it isn't in the form, unless memory was wanting
 abbrev pub Reads : {X Y : Type 0} → (X → Y) → Option Y → Result X ValueRefused → Type 0

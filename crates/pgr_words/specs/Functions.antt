@@ -6,7 +6,7 @@ use Rattle.std.specs.Str.{bytes_eq}
 use Rattle.pgr_words.specs.declared.function.Function.{Function}
 use Rattle.pgr_words.specs.declared.function.Function.TheVariants as function
 use Rattle.pgr_words.specs.declared.option.OptionName.{OptionName}
-use Rattle.pgr_words.specs.declared.option.OptionName.TheVariants.{Edges, Points, Combinations, Start, End, Vids, Directed, DrivingSide, Details, Distance, Equicost, K, Order, MaxCycles, Forbidden}
+use Rattle.pgr_words.specs.declared.option.OptionName.TheVariants.{Edges, Points, Restrictions, Combinations, Start, End, Vids, Directed, DrivingSide, Details, Distance, Equicost, K, Order, MaxCycles, Forbidden, Heuristic, Factor}
 use Rattle.pgr_words.specs.Options.{name_of, is_same}
 
 -- the options of a function that asks for pairs, in the order in which needed ones are looked for
@@ -33,6 +33,10 @@ driving_options = Edges ∷ Start ∷ Distance ∷ Directed ∷ Equicost ∷ []
 abbrev pub point_options : List OptionName
 point_options = Edges ∷ Points ∷ Start ∷ End ∷ Combinations ∷ Directed ∷ DrivingSide ∷ Details ∷ []
 
+-- the options of least routes under restrictions, in the same order
+abbrev pub trsp_options : List OptionName
+trsp_options = Edges ∷ Restrictions ∷ Start ∷ End ∷ Combinations ∷ Directed ∷ []
+
 -- the options of the first K routes, in the same order
 abbrev pub ksp_options : List OptionName
 ksp_options = Edges ∷ Start ∷ End ∷ K ∷ Combinations ∷ Directed ∷ []
@@ -41,10 +45,15 @@ ksp_options = Edges ∷ Start ∷ End ∷ K ∷ Combinations ∷ Directed ∷ []
 abbrev pub contraction_options : List OptionName
 contraction_options = Edges ∷ Order ∷ MaxCycles ∷ Forbidden ∷ Directed ∷ []
 
+-- the options of a search that an estimate guides, in the same order
+abbrev pub guided_options : List OptionName
+guided_options = Edges ∷ Start ∷ End ∷ Combinations ∷ Directed ∷ Heuristic ∷ Factor ∷ []
+
 -- each function by what it is called, with its options
 abbrev pub functions : List (List ℕ × (Function × List OptionName))
 functions =
-    (codes "pgr_connectedComponents", (function.ConnectedComponents, edge_options))
+    (codes "pgr_aStar", (function.AStar, guided_options))
+    ∷ (codes "pgr_connectedComponents", (function.ConnectedComponents, edge_options))
     ∷ (codes "pgr_strongComponents", (function.StrongComponents, edge_options))
     ∷ (codes "pgr_biconnectedComponents", (function.BiconnectedComponents, edge_options))
     ∷ (codes "pgr_articulationPoints", (function.ArticulationPoints, edge_options))
@@ -54,6 +63,7 @@ functions =
     ∷ (codes "pgr_dijkstraCostMatrix", (function.DijkstraCostMatrix, matrix_options))
     ∷ (codes "pgr_drivingDistance", (function.DrivingDistance, driving_options))
     ∷ (codes "pgr_withPoints", (function.WithPoints, point_options))
+    ∷ (codes "pgr_trsp", (function.Trsp, trsp_options))
     ∷ (codes "pgr_KSP", (function.Ksp, ksp_options))
     ∷ (codes "pgr_contraction", (function.Contraction, contraction_options))
     ∷ (codes "pgr_maxFlow", (function.MaxFlow, flow_options))

@@ -6,7 +6,7 @@ use Rattle.pgr_words.specs.declared.option.Need.{Need}
 use Rattle.pgr_words.specs.declared.option.Need.TheVariants.{Always, WithoutCombinations, Never}
 use Rattle.pgr_words.specs.declared.option.OptionName.{OptionName}
 use Rattle.pgr_words.specs.declared.option.OptionName.TheVariants as option
-use Rattle.pgr_words.specs.Forms.{file_name, ids, flag, side, distance, count, order}
+use Rattle.pgr_words.specs.Forms.{file_name, ids, flag, side, distance, count, order, heuristic, factor}
 
 -- an option: its name without the two hyphens, when it is needed, and what a text makes of a command, or none where the text isn't in the option's form
 pub record OptionRule : Type 0 where
@@ -29,6 +29,11 @@ rule_of option.Points = record {
   name = codes "points";
   need = Always;
   fill = into file_name (λ name command. record command { points = Some name });
+}
+rule_of option.Restrictions = record {
+  name = codes "restrictions";
+  need = Always;
+  fill = into file_name (λ name command. record command { restrictions = Some name });
 }
 rule_of option.Combinations = record {
   name = codes "combinations";
@@ -94,6 +99,16 @@ rule_of option.Forbidden = record {
   name = codes "forbidden";
   need = Never;
   fill = into ids (λ list command. record command { forbidden = list });
+}
+rule_of option.Heuristic = record {
+  name = codes "heuristic";
+  need = Never;
+  fill = into heuristic (λ chosen command. record command { heuristic = chosen });
+}
+rule_of option.Factor = record {
+  name = codes "factor";
+  need = Never;
+  fill = into factor (λ fraction command. record command { factor = fraction });
 }
 
 -- what an option is called, without its two hyphens

@@ -8,6 +8,8 @@ use Rattle.pgr_words.specs.declared.option.OptionName.TheVariants as option
 use Rattle.pgr_words.specs.declared.command.Command.{Command}
 use Rattle.pgr_words.specs.Options.{is_in_form}
 use Rattle.pgr_words.specs.Functions.{function_named, is_among}
+use Rattle.pgr_words.specs.declared.estimate.Heuristic.TheVariants.{H5}
+use Rattle.pgr_words.specs.Factors.{IsFactor}
 use Rattle.pgr_words.specs.Forms.{most_name_bytes, most_ids, most_distance}
 use Rattle.pgr_words.specs.Words.{options_in, first_missing}
 use Rattle.pgr_words.specs.Commands.{command_with}
@@ -44,6 +46,7 @@ pub record AreInForm (options : List OptionName) (command : Command) : Type 0 wh
   pub ends : AreIds command.ends
   pub vids : AreIds command.vids
   pub distance : command.distance ≤ most_distance
+  pub factor : IsFactor command.factor
   -- what the function needs is there
   pub starts_needed : is_among options option.Start ≡ true → command.combinations ≡ None → 0 < length command.starts
   pub ends_needed : is_among options option.End ≡ true → command.combinations ≡ None → 0 < length command.ends
@@ -56,3 +59,5 @@ pub record AreInForm (options : List OptionName) (command : Command) : Type 0 wh
   pub directed_unused : is_among options option.Directed ≡ false → command.directed ≡ true
   pub distance_unused : is_among options option.Distance ≡ false → command.distance ≡ 0
   pub equicost_unused : is_among options option.Equicost ≡ false → command.equicost ≡ false
+  pub heuristic_unused : is_among options option.Heuristic ≡ false → command.heuristic ≡ H5
+  pub factor_unused : is_among options option.Factor ≡ false → command.factor ≡ record { over = 1; under = 1 }

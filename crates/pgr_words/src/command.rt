@@ -39,7 +39,7 @@ pub struct Command {
     pub equicost: bool,
     /// The side that one drives on, both by default.
     pub driving_side: Side,
-    /// How the cost that is left is estimated: by the sum of the distances in x and in y by default.
+    /// How the cost from a start is estimated: by the sum of the distances in x and in y by default.
     pub heuristic: Heuristic,
     /// What the estimate is multiplied by, 1 by default.
     pub factor: Factor,

@@ -12,8 +12,8 @@ use crate::fault::{WordFault, WordsRefused};
 use crate::function::Function;
 use crate::option::{Need, OptionName};
 use crate::value::{
-    ValueRefused, read_count, read_distance, read_file_name, read_flag, read_ids, read_order,
-    read_side,
+    ValueRefused, read_count, read_distance, read_factor, read_file_name, read_flag,
+    read_heuristic, read_ids, read_order, read_side,
 };
 use std::alloc::Global;
 
@@ -113,6 +113,7 @@ fn set_option(
     match option {
         OptionName::Edges => command.edges = read_file_name(alloc, value)?,
         OptionName::Points => command.points = Some(read_file_name(alloc, value)?),
+        OptionName::Restrictions => command.restrictions = Some(read_file_name(alloc, value)?),
         OptionName::Combinations => command.combinations = Some(read_file_name(alloc, value)?),
         OptionName::Start => command.starts = read_ids(alloc, value)?,
         OptionName::End => command.ends = read_ids(alloc, value)?,
@@ -126,6 +127,8 @@ fn set_option(
         OptionName::Order => command.order = read_order(alloc, value)?,
         OptionName::MaxCycles => command.max_cycles = read_count(value)?,
         OptionName::Forbidden => command.forbidden = read_ids(alloc, value)?,
+        OptionName::Heuristic => command.heuristic = read_heuristic(value)?,
+        OptionName::Factor => command.factor = read_factor(value)?,
     }
     Ok(())
 }

@@ -1,4 +1,4 @@
-/// How the cost that is left to a target is estimated, by the distances in x and in y.
+/// How the cost from a start is estimated, by the distances in x and in y.
 #[derive(Clone, Copy, Debug, PartialEq, Eq)]
 pub enum Heuristic {
     /// None: the estimate is 0.
@@ -9,7 +9,7 @@ pub enum Heuristic {
     H2,
     /// The sum of the two squared distances.
     H3,
-    /// The length of the straight line.
+    /// The length of the straight line, rounded down.
     H4,
     /// The sum of the two distances.
     H5,

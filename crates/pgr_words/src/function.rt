@@ -22,10 +22,14 @@ pub enum Function {
     ArticulationPoints,
     /// `pgr_bridges`: the edges without which their ends are no longer joined.
     Bridges,
+    /// `pgr_aStar`: least routes by a search that an estimate guides.
+    AStar,
     /// `pgr_drivingDistance`: the vertices within a distance of a start.
     DrivingDistance,
     /// `pgr_withPoints`: least routes between vertices and points on edges.
     WithPoints,
+    /// `pgr_trsp`: least routes that meet no restriction.
+    Trsp,
     /// `pgr_KSP`: the first K loopless routes.
     Ksp,
     /// `pgr_contraction`: vertices taken away so that every distance stays.
@@ -77,6 +81,16 @@ const POINT_OPTIONS: [OptionName; 8] = [
     OptionName::Details,
 ];
 
+/// The options of least routes under restrictions, in the same order.
+const TRSP_OPTIONS: [OptionName; 6] = [
+    OptionName::Edges,
+    OptionName::Restrictions,
+    OptionName::Start,
+    OptionName::End,
+    OptionName::Combinations,
+    OptionName::Directed,
+];
+
 /// The options of the first K routes, in the same order.
 const KSP_OPTIONS: [OptionName; 6] = [
     OptionName::Edges,
@@ -96,12 +110,24 @@ const CONTRACTION_OPTIONS: [OptionName; 5] = [
     OptionName::Directed,
 ];
 
+/// The options of a search that an estimate guides, in the same order.
+const GUIDED_OPTIONS: [OptionName; 7] = [
+    OptionName::Edges,
+    OptionName::Start,
+    OptionName::End,
+    OptionName::Combinations,
+    OptionName::Directed,
+    OptionName::Heuristic,
+    OptionName::Factor,
+];
+
 impl Function {
     /// The function that is called so, with its options, if there is one.
     pub(crate) fn named(name: &str) -> Option<(Function, &'static [OptionName])>
         ensures { option_map (λ called. (called.0, called.1.now)) result ≡ function_named name.now }
     {
         match name {
+            "pgr_aStar" => Some((Function::AStar, &GUIDED_OPTIONS)),
             "pgr_connectedComponents" => Some((Function::ConnectedComponents, &EDGE_OPTIONS)),
             "pgr_strongComponents" => Some((Function::StrongComponents, &EDGE_OPTIONS)),
             "pgr_biconnectedComponents" => Some((Function::BiconnectedComponents, &EDGE_OPTIONS)),
@@ -112,6 +138,7 @@ impl Function {
             "pgr_dijkstraCostMatrix" => Some((Function::DijkstraCostMatrix, &MATRIX_OPTIONS)),
             "pgr_drivingDistance" => Some((Function::DrivingDistance, &DRIVING_OPTIONS)),
             "pgr_withPoints" => Some((Function::WithPoints, &POINT_OPTIONS)),
+            "pgr_trsp" => Some((Function::Trsp, &TRSP_OPTIONS)),
             "pgr_KSP" => Some((Function::Ksp, &KSP_OPTIONS)),
             "pgr_contraction" => Some((Function::Contraction, &CONTRACTION_OPTIONS)),
             "pgr_maxFlow" => Some((Function::MaxFlow, &FLOW_OPTIONS)),

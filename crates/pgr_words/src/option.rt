@@ -12,6 +12,8 @@ pub enum OptionName {
     Edges,
     /// The file of the table of points on edges.
     Points,
+    /// The file of the table of restrictions.
+    Restrictions,
     /// The file of the table of asked pairs.
     Combinations,
     /// The vertices where routes start.
@@ -38,6 +40,10 @@ pub enum OptionName {
     MaxCycles,
     /// The vertices that aren't contracted.
     Forbidden,
+    /// How the cost of a walk from the start is estimated.
+    Heuristic,
+    /// What the estimate is multiplied by.
+    Factor,
 }
 
 /// When a function needs an option that it has.
@@ -76,6 +82,7 @@ impl OptionName {
         let (name, need) = match self {
             OptionName::Edges => ("edges", Need::Always),
             OptionName::Points => ("points", Need::Always),
+            OptionName::Restrictions => ("restrictions", Need::Always),
             OptionName::Combinations => ("combinations", Need::Never),
             OptionName::Start => ("start", Need::WithoutCombinations),
             OptionName::End => ("end", Need::WithoutCombinations),
@@ -89,6 +96,8 @@ impl OptionName {
             OptionName::Order => ("order", Need::Always),
             OptionName::MaxCycles => ("max_cycles", Need::Never),
             OptionName::Forbidden => ("forbidden", Need::Never),
+            OptionName::Heuristic => ("heuristic", Need::Never),
+            OptionName::Factor => ("factor", Need::Never),
         };
         OptionRule { name, need }
     }

@@ -1,7 +1,10 @@
 ghost use Rattle.std.specs.Prelude.{◌≡◌, IfOk, option_map};
 ghost use Rattle.pgr_words.specs.Forms.{Reads, file_name, ids, flag, side, distance, count, method, order};
+ghost use Rattle.pgr_words.specs.Forms.{heuristic, factor, parts_round, is_slash};
+ghost use Rattle.pgr_words.specs.Forms as forms;
 ghost use Rattle.pgr_words.specs.Rising.{rising};
 
+use crate::estimate::{Factor, Heuristic};
 use crate::method::Method;
 use pgr_numerals::{read_digits, read_i64_list};
 use pgr_outside::{Listed, Side, Text};
@@ -21,6 +24,9 @@ const MOST_COUNT: u64 = 1_000_000;
 
 /// The most methods in an order.
 const MOST_METHODS: usize = 64;
+
+/// The greatest part of a factor.
+const MOST_OF_FACTOR: u64 = 1_000_000;
 
 /// Why a value wasn't read.
 #[derive(Clone, Copy, Debug, PartialEq, Eq, Drop)]
@@ -140,6 +146,63 @@ fn method_of(text: &[u8]) -> Option<Method>
         b"2" => Some(Method::Linear),
         _ => None,
     }
+}
+
+/// A heuristic: one digit from 0 to 5.
+pub(crate) fn read_heuristic(value: &str) -> Result<Heuristic, ValueRefused>
+    ensures { Reads (λ heuristic. heuristic) (heuristic value.now) result }
+{
+    match value {
+        "0" => Ok(Heuristic::H0),
+        "1" => Ok(Heuristic::H1),
+        "2" => Ok(Heuristic::H2),
+        "3" => Ok(Heuristic::H3),
+        "4" => Ok(Heuristic::H4),
+        "5" => Ok(Heuristic::H5),
+        _ => Err(ValueRefused::Form),
+    }
+}
+
+/// A factor: a numerator, or a numerator, a slash and a denominator, each from 1 to 1,000,000.
+pub(crate) fn read_factor(value: &str) -> Result<Factor, ValueRefused>
+    ensures { Reads (λ factor. factor) (factor value.now) result }
+{
+    factor_in(value).ok_or(ValueRefused::Form)
+}
+
+/// The factor that a text stands for, if it is in the form.
+fn factor_in(value: &str) -> Option<Factor>
+    ensures { result ≡ factor value.now }
+{
+    match parts_round_slash(value) {
+        None => factor_of(part_of_factor(value), Some(1)),
+        Some((over, under)) => factor_of(part_of_factor(over), part_of_factor(under)),
+    }
+}
+
+/// The factor of two parts, if both are there.
+fn factor_of(over: Option<u32>, under: Option<u32>) -> Option<Factor>
+    ensures { result ≡ forms.factor_of over under }
+{
+    match (over, under) {
+        (Some(over), Some(under)) => Some(Factor { over, under }),
+        _ => None,
+    }
+}
+
+/// What stands before the first slash of a text, and what behind it, if it has one.
+fn parts_round_slash(value: &str) -> Option<(&str, &str)>
+    ensures { option_map (λ parts. (parts.0.now, parts.1.now)) result ≡ parts_round is_slash value.now }
+{
+    value.split_once('/')
+}
+
+/// A part of a factor: digits alone, from 1 to 1,000,000.
+fn part_of_factor(value: &str) -> Option<u32>
+    ensures { result ≡ forms.part_of_factor value.now }
+{
+    let part = read_digits(value.as_bytes(), MOST_OF_FACTOR)?;
+    if part > 0 { Some(part as u32) } else { None }
 }
 
 /// Puts the numbers in order and takes repeats out.

@@ -1,5 +1,5 @@
 -- What is found for the pairs that are asked for is a table of paths over the links of the edges.
-use Rattle.std.proofs.Common.{◌≡◌, ℕ, ◌∙◌}
+use Rattle.std.proofs.Common.{◌∙◌}
 use Rattle.pgr_answer.specs.Pairs.{IsAsked}
 use Rattle.pgr_answer.proofs.TablesFound.{pairs_among, found_named, path_table_found, routes_numbered, routes_some}
 use Rattle.pgr_answer.proofs.dijkstra.dijkstra_rows.Goals as goal

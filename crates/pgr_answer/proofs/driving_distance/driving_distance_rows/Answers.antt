@@ -17,7 +17,8 @@ rows_of_reaches-requires c =
     let names = c.in_ok-network.network.names in
     let links = c.in_ok-network.network.links.items in
     let left = c.leave_shown.new.reaches.items in
-    subst (λ (reaches : List Reach). All (λ (reach : Reach). IsListBelow (length names) (listed reach)) reaches) (sym c.as_slice-shown.ensures.value) (shown_below names links network.numbers _ _ network.ends network.numbered network.exactly
+    subst (λ (reaches : List Reach). All (λ (reach : Reach). IsListBelow (length names) (listed reach)) reaches) (sym c.as_slice-shown.ensures.value)
+    (shown_below names links network.numbers _ _ network.ends network.numbered network.exactly
     (c.walks_correspond.ensures.named names links network.numbers) (c.walks_correspond.ensures.numbered names links network.numbers)
     (c.costs_and_hops_are_kept.ensures.cost names) (c.costs_and_hops_are_kept.ensures.hops names)
     (c.numbers_rise_with_ids.ensures.order names) (c.numbers_rise_with_ids.ensures.one names)

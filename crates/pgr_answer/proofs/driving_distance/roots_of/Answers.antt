@@ -4,8 +4,9 @@ use Rattle.std.specs.Prelude.{Contains}
 use Rattle.std.specs.Ordering.{nat_cmp}
 use Rattle.std.proofs.lemmas.Cmp.{nat_cmp_total}
 use Rattle.std.proofs.lemmas.List.Filters.{dedup_is}
+use Rattle.pgr_walks.specs.LinkOrders.{nat_tie}
 use Rattle.pgr_numbers.specs.Names.{id_at}
-use Rattle.pgr_answer.proofs.PairLemmas.{nat_tie, numbers_tie, once_kept, once_rise}
+use Rattle.pgr_answer.proofs.PairLemmas.{numbers_tie, once_kept, once_rise}
 use Rattle.pgr_answer.proofs.driving_distance.roots_of.Goals as goal
 
 pub returns-clause-exactly : goal.returns-clause-exactly

@@ -1,7 +1,5 @@
 -- The arcs of a table make a network, between ids and so between their numbers.
-use Rattle.std.proofs.Common.{◌≡◌, List, length, map}
-use Rattle.std.specs.Prelude.{ℤ, All}
-use Rattle.pgr_walks.specs.declared.link.LinkOf.{LinkOf}
+use Rattle.std.proofs.Common.{length}
 use Rattle.pgr_numbers.specs.Names.{AreNumbered, id_at}
 use Rattle.pgr_answer.proofs.flow_network.flow_network_of.Goals as goal
 

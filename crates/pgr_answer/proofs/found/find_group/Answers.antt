@@ -1,5 +1,5 @@
 -- Each pair of the group has more found for it.
-use Rattle.std.proofs.Common.{◌≡◌, ◌∙◌, length, arith, subst}
+use Rattle.std.proofs.Common.{◌∙◌, length, arith, subst}
 use Rattle.std.specs.Prelude.{Contains}
 use Rattle.std.proofs.lemmas.List.{take_all}
 use Rattle.pgr_answer.specs.Finding.{Extends}

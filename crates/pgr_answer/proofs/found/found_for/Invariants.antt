@@ -1,4 +1,4 @@
-use Rattle.std.proofs.Common.{◌≡◌, ℕ, List, ◌++◌, length}
+use Rattle.std.proofs.Common.{◌≡◌, List, ◌++◌, length}
 use Rattle.std.specs.Prelude.{All, Contains}
 use Rattle.pgr_answer.specs.declared.pair.Pair.{Pair}
 use Rattle.pgr_answer.specs.Finding.{IsPairAmong, AreFound, RisesByPair}

@@ -1,5 +1,5 @@
 -- Each arc adds its row, if it leads out of the marked vertices.
-use Rattle.std.proofs.Common.{◌≡◌, ◌+◌, ◌++◌, length, get_or, drop, arith}
+use Rattle.std.proofs.Common.{arith}
 use Rattle.pgr_numbers.specs.Names.{named}
 use Rattle.pgr_flow.specs.Cut.{leads_out, marked}
 use Rattle.pgr_answer.specs.MinCut.{cut_row}

@@ -1,4 +1,5 @@
-use Rattle.std.proofs.Common.{◌∙◌}
+use Rattle.std.proofs.Common.{◌≤◌, ◌*◌, length, subst, arith, ◌∙◌}
+use Rattle.pgr_numbers.specs.Names.{AreEnds}
 use Rattle.pgr_answer.proofs.NetworkLemmas.{fits_listed, links_once}
 use Rattle.pgr_answer.proofs.network.network_of.Goals as goal
 
@@ -8,6 +9,16 @@ numbered-requires c = rw c.as_slice-3.ensures.value (rw c.as_slice-2.ensures.val
 pub from_links-requires-clause-once : goal.from_links-requires-clause-once
 from_links-requires-clause-once c = (c.numbered_links_fit.ensures.repeats _ _ _ (rw c.as_slice-3.ensures.value at c.in_ok-numbered.ensures)).0
     (links_once _ c.in_ok-links.ensures.rising)
+
+pub returns-clause-once : goal.returns-clause-once
+returns-clause-once c = links_once _ c.in_ok-links.ensures.rising
+
+pub returns-clause-few : goal.returns-clause-few
+returns-clause-few c =
+    let names = c.in_ok-names.names in
+    let ends = rw c.as_slice-2.ensures.value at c.in_ok-names.ensures.ends in
+    let twice = subst (λ links. AreEnds links names → length names ≤ 2 * length links) c.as_slice.ensures.value (c.names_are_few.ensures.twice names) ends in
+    omega (arith, twice, c.in_ok-links.ensures.few, c.len-rows.ensures.accepted.few)
 
 pub returns-clause-network : goal.returns-clause-network
 returns-clause-network c = record {

@@ -1,5 +1,4 @@
 -- The pairs of the lists and of the rows are those that are asked for; a sort and a `dedup` keep them.
-use Rattle.std.proofs.Common.{◌≡◌}
 use Rattle.std.proofs.lemmas.List.Filters.{dedup_is}
 use Rattle.pgr_answer.specs.Gathering.{pair_cmp, IsNumberedPair}
 use Rattle.pgr_answer.specs.Pairs.{IsAsked}

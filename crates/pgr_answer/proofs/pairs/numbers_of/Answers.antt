@@ -1,5 +1,5 @@
 -- Each id adds its number, if it has one.
-use Rattle.std.proofs.Common.{◌≡◌, ℕ, rules, w64, length, get_or, pos, subst, arith}
+use Rattle.std.proofs.Common.{rules, w64, get_or, pos, subst, arith}
 use Rattle.std.proofs.lemmas.Int.{to_z-of_z}
 use Rattle.std.proofs.lemmas.List.{take_all}
 use mir.Val.{SFits}

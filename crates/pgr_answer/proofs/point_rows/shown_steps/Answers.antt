@@ -1,9 +1,8 @@
 -- The steps of a walk are two at least, and cost together what it does.
-use Rattle.std.proofs.Common.{◌≡◌, ◌≤◌, List, length, sym, ap, subst, ◌∙◌, arith}
+use Rattle.std.proofs.Common.{◌≤◌, List, length, sym, ap, subst, arith}
 use Rattle.std.specs.List.{sum_by}
 use Rattle.pgr_walks.specs.Graph.{greatest}
 use Rattle.pgr_route.specs.declared.step.Step.{Step}
-use Rattle.pgr_points.specs.Collapsed.{collapsed}
 use Rattle.pgr_answer.proofs.PointTables.{two_steps, cost_of_steps}
 use Rattle.pgr_answer.proofs.point_rows.shown_steps.Goals as goal
 

@@ -1,14 +1,13 @@
 -- The files of each role are read, or one of them is refused behind those of the roles before.
-use Rattle.std.proofs.Common.{◌≡◌, ℕ, ◌+◌, ◌<◌, List, length, get_or, take, drop, sym, ap, subst, ◌∙◌, arith}
+use Rattle.std.proofs.Common.{◌+◌, ◌<◌, length, get_or, take, drop, sym, ap, subst, ◌∙◌, arith}
 use Rattle.std.specs.Prelude.{flat_map}
-use Rattle.pgr_outside.specs.Faults.{NoneFell}
 use Rattle.pgr_answer.specs.declared.role.Role.TheVariants.{Edges}
-use Rattle.pgr_answer.specs.Files.{File, files_with, files_of}
+use Rattle.pgr_answer.specs.Files.{files_with, files_of}
 use Rattle.pgr_answer.specs.Reading.{AreRead}
 use Rattle.pgr_answer.specs.Refusals.{HoldsAmong}
 use Rattle.pgr_answer.specs.Roles.{roles}
 use Rattle.pgr_answer.specs.Tables.{no_tables}
-use Rattle.pgr_answer.proofs.ReadFiles.{holds_behind, read_both, files_more, files_split}
+use Rattle.pgr_answer.proofs.ReadFiles.{not_plain, holds_behind, read_both, files_more, files_split}
 use Rattle.pgr_answer.proofs.FirstRefusals.{if_err}
 use Rattle.pgr_answer.proofs.reading.read_tables.Goals as goal
 
@@ -44,4 +43,5 @@ loop-role-preserved g c =
           (read_both known _ _ no_tables c.loop-role.tables c.read_role.new.tables c.loop-role.invariant.read here);
       content = c.in_ok-read_role.ensures.content ∙ c.loop-role.invariant.content;
       faults = λ name. let low = c.loop-role.invariant.faults name in let high = c.in_ok-read_role.ensures.faults name in omega arith;
+      places = λ placed. c.read_role.ensures.places (not_plain command.function _ placed) (c.loop-role.invariant.places placed);
     }

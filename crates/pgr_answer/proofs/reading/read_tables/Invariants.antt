@@ -3,7 +3,9 @@ use Rattle.std.specs.Prelude.{flat_map}
 use Rattle.pgr_outside.specs.Faults.{NoneFell}
 use Rattle.pgr_answer.specs.Files.{files_with}
 use Rattle.pgr_answer.specs.Reading.{AreRead}
-use Rattle.pgr_answer.specs.Roles.{roles}
+use Rattle.pgr_table.specs.Edges.{HasPlaces}
+use Rattle.pgr_answer.specs.declared.role.Kind.TheVariants as kind
+use Rattle.pgr_answer.specs.Roles.{roles, kind_of_edges}
 use Rattle.pgr_answer.specs.Tables.{no_tables}
 use Rattle.pgr_answer.proofs.reading.read_tables.Given as goal
 
@@ -13,4 +15,6 @@ invariant-loop-role g l = record {
   read : AreRead (g.S.Store.content l.fn.store) (flat_map (files_with l.command) (take l.role-index roles)) no_tables l.tables;
   content : g.S.Store.content l.store ≡ g.S.Store.content l.fn.store;
   faults : NoneFell (g.S.Store.faults l.fn.store) (g.S.Store.faults l.store);
+  -- edges have places, where they are to be read with them
+  places : kind_of_edges l.command.function ≡ kind.PlacedEdges → HasPlaces l.tables.edges;
 }

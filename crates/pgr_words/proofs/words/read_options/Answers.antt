@@ -26,7 +26,8 @@ loop-index-preserved c =
     let words = map string_bytes c.args.words.now in
     let place = c.loop-index.index in
     let at = text_at c.args.words.now place c.index-words-index.result c.as_str.result.now c.loop-index-test.true c.index-words-index.is c.as_str.ensures.value in
-    one_more c.args.function c.args.options.now words place (place + 2) c.as_str.result.now c.loop-index.draft c.take.new.self c.loop-index.invariant at.0 at.1 refl c.in_ok-take.ensures.ok
+    one_more c.args.function c.args.options.now words place (place + 2) c.as_str.result.now c.loop-index.draft c.take.new.self c.loop-index.invariant at.0 at.1 refl
+    c.in_ok-take.ensures.ok
 
 pub returns-clause-verdict : goal.returns-clause-verdict
 returns-clause-verdict c =

@@ -5,6 +5,7 @@ use Rattle.pgr_words.proofs.function.Function.named.Goals as goal
 
 pub returns-in_default : goal.returns-in_default
 returns-in_default c = rw (
+  differs _ _ c.in_default.not-pgr_aStar,
   differs _ _ c.in_default.not-pgr_connectedComponents,
   differs _ _ c.in_default.not-pgr_strongComponents,
   differs _ _ c.in_default.not-pgr_biconnectedComponents,
@@ -15,6 +16,7 @@ returns-in_default c = rw (
   differs _ _ c.in_default.not-pgr_dijkstraCostMatrix,
   differs _ _ c.in_default.not-pgr_drivingDistance,
   differs _ _ c.in_default.not-pgr_withPoints,
+  differs _ _ c.in_default.not-pgr_trsp,
   differs _ _ c.in_default.not-pgr_KSP,
   differs _ _ c.in_default.not-pgr_contraction,
   differs _ _ c.in_default.not-pgr_maxFlow,

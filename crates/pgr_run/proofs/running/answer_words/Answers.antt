@@ -1,19 +1,20 @@
-use Rattle.std.proofs.Common.{refl}
+use Rattle.std.proofs.Common.{refl, []}
 use Rattle.pgr_run.specs.Promise.{texts}
 use Rattle.pgr_run.proofs.PromiseLemmas.{err_made, not_words, holds_refused, first_told, none_first}
-use Rattle.pgr_run.proofs.running.print_table.Goals as goal
+use Rattle.pgr_run.proofs.running.answer_words.Goals as goal
 
 pub returns-in_err-answered-clause-cause : goal.returns-in_err-answered-clause-cause
 returns-in_err-answered-clause-cause g c =
-    err_made _ _ _ c.from_residual-in_err-answered.ensures.1
-    (holds_refused (texts c.args.words.now) (record {
+    err_made _ _ _ c.from_residual-in_err-answered.ensures.1 (λ out faults.
+    holds_refused (texts c.args.words.now) (record {
       content = g.S.Store.content c.args.store.now;
       names_before = g.S.Store.faults c.args.store.now;
       names_after = g.S.Store.faults c.answer.new.store;
-      out_before = g.O.Sink.written c.args.out.now;
-      out_after = g.O.Sink.written c.args.out.now;
-      faults_before = g.O.Sink.faults c.args.out.now;
-      faults_after = g.O.Sink.faults c.args.out.now;
+      out_before = out;
+      out_after = out;
+      faults_before = faults;
+      faults_after = faults;
+      notes = [];
     })
     c.in_ok-command.command c.in_ok-command.ensures.verdict refl c.in_err-answered.field-0.0 c.in_err-answered.ensures.refused)
 
@@ -25,11 +26,6 @@ pub returns-in_err-answered-clause-refused_where : goal.returns-in_err-answered-
 returns-in_err-answered-clause-refused_where g c =
     first_told (texts c.args.words.now) c.in_ok-command.command c.in_ok-command.ensures.verdict (g.S.Store.content c.args.store.now)
     _ c.in_err-answered.ensures.first _ c.in_err-answered.field-0.0 refl c.from_residual-in_err-answered.ensures.1
-
-pub returns-in_err-write_table-clause-refused_where : goal.returns-in_err-write_table-clause-refused_where
-returns-in_err-write_table-clause-refused_where g c =
-    none_first (texts c.args.words.now) c.in_ok-command.command c.in_ok-command.ensures.verdict (g.S.Store.content c.args.store.now)
-    _ c.in_ok-answered.ensures.first c.in_ok-answered.answered _ refl
 
 pub returns-clause-refused_where : goal.returns-clause-refused_where
 returns-clause-refused_where g c =

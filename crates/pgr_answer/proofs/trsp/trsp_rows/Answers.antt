@@ -1,0 +1,39 @@
+-- What is found for the pairs that are asked for is a table of the paths over the links of the edges that meet no restriction.
+use Rattle.std.proofs.Common.{subst, ◌∙◌}
+use Rattle.pgr_answer.specs.AllowedRoutes.{IsAllowedRoute, allowed_over}
+use Rattle.pgr_answer.specs.Finding.{AreFoundBy}
+use Rattle.pgr_answer.specs.Pairs.{IsAsked}
+use Rattle.pgr_answer.proofs.TablesFound.{pairs_among, found_named}
+use Rattle.pgr_answer.proofs.AllowedTables.{allowed_table_found, allowed_numbered, allowed_some}
+use Rattle.pgr_answer.proofs.trsp.trsp_rows.Goals as goal
+
+pub allowed_for-requires-clause-among : goal.allowed_for-requires-clause-among
+allowed_for-requires-clause-among c = rw c.as_slice-pairs.ensures.value
+    (pairs_among _ (IsAsked c.as_slice-starts.result.now c.as_slice-ends.result.now c.args.tables.now.combinations) _ c.in_ok-pairs.ensures.exactly)
+
+pub rows_of_routes-requires-clause-named : goal.rows_of_routes-requires-clause-named
+rows_of_routes-requires-clause-named c =
+    let are = rw c.as_slice-pairs.ensures.value at c.in_ok-found.ensures.found in
+    rw c.as_slice-found.ensures.value (found_named _ (IsAsked c.as_slice-starts.result.now c.as_slice-ends.result.now c.args.tables.now.combinations) _
+    c.in_ok-pairs.ensures.exactly _ _ _ are)
+
+pub rows_of_routes-requires-clause-numbered : goal.rows_of_routes-requires-clause-numbered
+rows_of_routes-requires-clause-numbered c = rw c.as_slice-found.ensures.value (allowed_numbered _ _ _ _ _ c.in_ok-found.ensures.found)
+
+pub rows_of_routes-requires-clause-links : goal.rows_of_routes-requires-clause-links
+rows_of_routes-requires-clause-links c = rw c.as_slice-found.ensures.value (allowed_some _ _ _ _ _ c.in_ok-found.ensures.found)
+
+pub returns : goal.returns
+returns c =
+    let names = c.in_ok-network.network.names in
+    let links = c.in_ok-network.network.links.items in
+    let ends = c.in_ok-network.ensures.network.ends in
+    let asked = rw (c.as_slice-starts.ensures, c.as_slice-ends.ensures) at c.in_ok-pairs.ensures.exactly in
+    let found = rw c.as_slice-pairs.ensures.value at c.in_ok-found.ensures.found in
+    let are = subst (λ restrictions. AreFoundBy (allowed_over links restrictions) (IsAllowedRoute links restrictions names) names c.in_ok-pairs.pairs.items
+    c.in_ok-found.found.items)
+    (c.in_ok-turned.ensures.restrictions ∙ c.in_ok-turns.ensures) found in
+    let rows = rw c.as_slice-found.ensures.value at c.in_ok-rows.ensures in
+    allowed_table_found names _ _ asked _ ends
+    (λ m n. c.numbers_rise_with_ids.ensures.order names m n ends.rise) (λ m n. c.numbers_rise_with_ids.ensures.one names m n ends.rise)
+    _ c.in_ok-network.ensures.links c.args.tables.now.restrictions _ _ are c.in_ok-found.ensures.rise (c.from_vec.ensures ∙ rows)
