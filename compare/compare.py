@@ -1,14 +1,15 @@
 #!/usr/bin/env python3
 """The same questions to pgr and to pgRouting, over small tables, judged by a third program.
 
-    compare/compare.py [--pgr PROGRAM] [--trials N] [--seed N]
+    compare/compare.py [--pgr PROGRAM] [--trials N] [--seed N] [--only NAME] [--show N] [--simple]
 
 It makes a cluster of PostgreSQL under a temporary folder, which it ends and removes, and needs no running server. Wanted
 are Debian's postgresql-15-pgrouting and psql; as root it runs the server as the user postgres. The judge is judge.py,
 which reads no code of the other two: it looks at all vertices and edges of tables so small that no search is needed.
-Printed is a line for each function, with how many answers agree, and each kind of case where the two differ.
+Printed is a line for each function, with how many answers agree, and the smallest tables where the two differ.
 """
 import argparse
+import csv
 import os
 import pwd
 import random
@@ -19,8 +20,9 @@ import sys
 import tempfile
 import time
 
-import judge
+import questions
 from cases import CASES
+from judge import Table
 
 HERE = os.path.dirname(os.path.realpath(__file__))
 SERVER = "/usr/lib/postgresql/15/bin"
@@ -46,6 +48,8 @@ class Cluster:
             self.ask("CREATE EXTENSION pgrouting")
             self.ask("CREATE TABLE edges (id bigint, source bigint, target bigint, cost float8, reverse_cost float8)")
             self.ask("CREATE TABLE points (pid bigint, edge_id bigint, fraction float8, side char)")
+            self.ask("CREATE TABLE restrictions (path bigint[])")
+            self.ask("CREATE TABLE places (id bigint, x float8, y float8)")
         except BaseException:
             self.__exit__()
             raise
@@ -88,10 +92,12 @@ class Cluster:
                 parts[-1].append(row)
         return parts if len(parts) == len(texts) else [self.ask(text) for text in texts]
 
-    def load(self, edges, points):
-        text = ["TRUNCATE edges, points;"]
-        text += ["INSERT INTO edges VALUES (%d,%d,%d,%d,%d);" % row for row in edges]
-        text += ["INSERT INTO points VALUES (%d,%d,%s,'%s');" % row for row in points]
+    def load(self, table):
+        text = ["TRUNCATE edges, points, restrictions, places;"]
+        text += ["INSERT INTO edges VALUES (%d,%d,%d,%d,%d);" % row for row in table.edges]
+        text += ["INSERT INTO points VALUES (%d,%d,%s,'%s');" % row for row in table.points]
+        text += ["INSERT INTO restrictions VALUES ('{%s}');" % questions.joined(path) for path in table.restrictions]
+        text += ["INSERT INTO places VALUES (%d,%d,%d);" % (v, x, y) for v, (x, y) in (table.places or {}).items()]
         self.ask("\n".join(text))
 
 
@@ -102,81 +108,92 @@ def write(folder, name, header, rows):
     return path
 
 
-def ask_pgr(program, folder, edges, points, question):
+def ask_pgr(program, folder, table, question):
     """The rows of pgr as lists of words, or its message."""
-    words = [question.function, "--edges=" + write(folder, "edges.csv", "id,source,target,cost,reverse_cost", edges)]
-    if question.function == "pgr_withPoints":
-        words.append("--points=" + write(folder, "points.csv", "pid,edge_id,fraction,side", points))
+    header, rows = "id,source,target,cost,reverse_cost", table.edges
+    if "capacities" in question.tables:
+        header = header.replace("cost", "capacity")
+    if "places" in question.tables:
+        header, rows = header + ",x1,y1,x2,y2", [(*row, *table.places[row[1]], *table.places[row[2]]) for row in rows]
+    words = [question.function, "--edges=" + write(folder, "edges.csv", header, rows)]
+    if "points" in question.tables:
+        words.append("--points=" + write(folder, "points.csv", "pid,edge_id,fraction,side", table.points))
+    if "restrictions" in question.tables:
+        paths = [('"{%s}"' % questions.joined(path),) for path in table.restrictions]
+        words.append("--restrictions=" + write(folder, "restrictions.csv", "path", paths))
     run = subprocess.run([program, *words, *question.words], text=True, capture_output=True)
     if run.returncode:
         return "status %d: %s" % (run.returncode, run.stderr.strip())
-    return [line.split(",") for line in run.stdout.splitlines()[1:]]
+    return list(csv.reader(run.stdout.splitlines()))[1:]
 
 
-def random_table(r):
-    """A table of up to nine edges over up to six vertices, with parallel edges, loops and one-way edges."""
-    vertices = r.randint(2, 6)
-    cost = lambda: r.choice([-1, 0, 1, 1, 2, 3, 5])
-    return [(i, r.randint(1, vertices), r.randint(1, vertices), cost(), cost()) for i in range(1, r.randint(1, 9) + 1)]
-
-
-def verdict(question, edges, points, ours, theirs):
-    right = question.judge(edges, points, question)
+def verdict(question, table, ours, theirs):
+    right = question.right(table, question.asked)
     us = ours if isinstance(ours, str) else question.read(ours, True)
     them = theirs if isinstance(theirs, str) else question.read(theirs, False)
     return question.accepts(us, right), question.accepts(them, right), us, them, right
 
 
-def trials(program, cluster, count, seed):
-    r = random.Random(seed)
+def trials(program, cluster, given):
+    """How many questions of each name there were and how many were answered rightly by each, and those where some answer is wrong."""
+    r = random.Random(given.seed)
     agree, differ = {}, {}
     folder = tempfile.mkdtemp(prefix="pgr_compare_")
-    for _ in range(count):
-        edges = random_table(r)
-        cluster.load(edges, [])
-        asked = list(judge.questions(r, edges))
-        for question, theirs in zip(asked, cluster.ask_all([question.query for question in asked])):
-            ours = ask_pgr(program, folder, edges, [], question)
-            our, their, us, them, right = verdict(question, edges, [], ours, theirs)
-            counts = agree.setdefault(question.function, [0, 0, 0])
-            counts[0] += 1
-            counts[1] += our
-            counts[2] += their
-            if not (our and their):
-                kept = differ.setdefault((question.function, our, their), [])
-                kept.append((len(edges), edges, question, us, them, right))
+    for _ in range(given.trials):
+        asked = [(table, question) for table, question in questions.questions(r, given.simple) if given.only in question.name]
+        for table in {id(table): table for table, _ in asked}.values():
+            about = [question for of, question in asked if of is table]
+            cluster.load(table)
+            for question, theirs in zip(about, cluster.ask_all([question.query for question in about])):
+                ours = ask_pgr(program, folder, table, question)
+                our, their, us, them, right = verdict(question, table, ours, theirs)
+                counts = agree.setdefault(question.name, [0, 0, 0])
+                counts[0] += 1
+                counts[1] += our
+                counts[2] += their
+                if not (our and their):
+                    kept = differ.setdefault((question.name, our, their), [])
+                    kept.append((len(table.edges), table, question, us, them, right))
     shutil.rmtree(folder)
     return agree, differ
 
 
-def show(edges, question, us, them, right):
-    print("  edges (id,source,target,cost,reverse_cost): " + " ".join("(%d,%d,%d,%d,%d)" % row for row in edges))
+def show(table, question, us, them, right):
+    name = "edges (id,source,target,%s): " % ("capacity,reverse_capacity" if "capacities" in question.tables else "cost,reverse_cost")
+    print("  " + name + " ".join("(%d,%d,%d,%d,%d)" % row for row in table.edges))
+    if "points" in question.tables:
+        print("  points (pid,edge_id,fraction,side): " + " ".join("(%d,%d,%s,%s)" % row for row in table.points))
+    if "restrictions" in question.tables:
+        print("  restrictions: " + " ".join("{%s}" % questions.joined(path) for path in table.restrictions))
+    if "places" in question.tables:
+        print("  places:     " + " ".join("%d at (%d,%d)" % (v, x, y) for v, (x, y) in table.places.items()))
     print("  asked:      %s %s" % (question.function, " ".join(question.words)))
     print("  judge:      %s" % (right,))
     print("  pgr:        %s" % (us,))
     print("  pgRouting:  %s" % (them,))
 
 
-def known(program, cluster):
+def known(program, cluster, only):
     """The cases that are kept: each with its sentence and both answers."""
     folder = tempfile.mkdtemp(prefix="pgr_compare_")
-    for case in CASES:
-        question = judge.question(case["function"], case["asked"])
-        cluster.load(case["edges"], [])
+    for case in [case for case in CASES if only in case["function"]]:
+        question = questions.question(case["function"], case["asked"])
+        table = Table(case["edges"], case.get("points", ()), case.get("restrictions", ()), case.get("places"))
+        cluster.load(table)
         answers = [cluster.ask(question.query) for _ in range(5)]
-        ours = ask_pgr(program, folder, case["edges"], [], question)
-        our, their, us, them, right = verdict(question, case["edges"], [], ours, answers[0])
+        ours = ask_pgr(program, folder, table, question)
+        our, their, us, them, right = verdict(question, table, ours, answers[0])
         state = "the same as the judge" if their else "not the answer of the judge"
         varies = "" if all(answer == answers[0] for answer in answers) else ", and not the same at each of five runs"
         print("\n%s\n  pgr is %s, pgRouting is %s%s" % (case["says"], "as the judge" if our else "NOT as the judge", state, varies))
-        show(case["edges"], question, us, them, right)
+        show(table, question, us, them, right)
     shutil.rmtree(folder)
 
 
 def order_of_rows(cluster):
     """Two routes of equal cost: which one pgRouting answers, by the order of the rows of the table."""
     rows = [(1, 1, 2, 1, -1), (2, 2, 4, 1, -1), (3, 1, 3, 1, -1), (4, 3, 4, 1, -1)]
-    cluster.load(rows, [])
+    cluster.load(Table(rows))
     answers = []
     for order in ("ASC", "DESC"):
         query = "SELECT * FROM pgr_dijkstra($$SELECT * FROM edges ORDER BY id %s$$, 1, 4)" % order
@@ -190,11 +207,14 @@ def main():
     options.add_argument("--pgr", default=os.path.join(HERE, "..", "bin", "pgr"))
     options.add_argument("--trials", type=int, default=100)
     options.add_argument("--seed", type=int, default=1)
+    options.add_argument("--only", default="", help="ask only the functions with this in their names")
+    options.add_argument("--show", type=int, default=1, help="how many tables to show of each kind of difference")
+    options.add_argument("--simple", action="store_true", help="no self loops, no parallel edges, and one cost for each edge")
     given = options.parse_args()
     signal.signal(signal.SIGTERM, lambda *_: sys.exit(1))
     with Cluster() as cluster:
         print("pgRouting %s, %d tables, seed %d" % (cluster.ask("SELECT pgr_version()")[0][0], given.trials, given.seed))
-        agree, differ = trials(given.pgr, cluster, given.trials, given.seed)
+        agree, differ = trials(given.pgr, cluster, given)
         print("\n| Function | Questions | pgr as the judge | pgRouting as the judge |\n|---|---|---|---|")
         for name, (asked, ours, theirs) in sorted(agree.items()):
             print("| `%s` | %d | %d | %d |" % (name, asked, ours, theirs))
@@ -202,9 +222,11 @@ def main():
             kept.sort(key=lambda entry: entry[0])
             print("\n%s: pgr is %s, pgRouting is %s; %d times. The smallest:" % (
                 name, "right" if our else "WRONG", "right" if their else "wrong", len(kept)))
-            show(*kept[0][1:])
-        known(given.pgr, cluster)
+            for entry in kept[:given.show]:
+                show(*entry[1:])
+        known(given.pgr, cluster, given.only)
         order_of_rows(cluster)
 
 
-main()
+if __name__ == "__main__":
+    main()
