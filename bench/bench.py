@@ -4,7 +4,7 @@
     bench/bench.py [--pgr PROGRAM] [--sizes 10000,100000] [--kinds grid,random] [--best 3] [--seed 1] [--limit 600] [--only NAME]
     bench/bench.py --check [--pgr PROGRAM]      compares the answers of the two over small networks, and times nothing
 
-Give the built program, crates/pgr_cli/out/pgr_cli: bin/pgr looks for changed sources at each run. Wanted are g++ and python3.
+Give the built program, crates/pgr_cli/out/pgr_cli: bin/pgr looks for changed sources at each run. Wanted are g++, python3 and, for memory, Debian's time.
 Each time is the least of some runs of a whole process, from the table to its rows on /dev/null. Only ratios within one run
 count. Memory is the greatest resident set of a process.
 """
@@ -108,13 +108,15 @@ def jobs(path, start, end, places):
 
 
 def run(words, limit):
-    """Milliseconds and greatest resident kilobytes of a process, or none where it passes the limit of seconds or fails."""
-    began = time.perf_counter()
-    with open(os.devnull, "wb") as nothing:
-        process = subprocess.Popen(["timeout", str(limit), *words], stdout=nothing, stderr=nothing)
-        _, status, used = os.wait4(process.pid, 0)
-        process.returncode = status
-    return ((time.perf_counter() - began) * 1e3, used.ru_maxrss) if status == 0 else None
+    """Milliseconds and greatest resident kilobytes of a process, or none where it passes the limit of seconds or fails.
+
+    A process of ours would count what this one holds too, so GNU time tells the memory; without it, it is 0."""
+    with open(os.devnull, "wb") as nothing, tempfile.NamedTemporaryFile("r") as told:
+        timed = ["/usr/bin/time", "-f", "%M", "-o", told.name] if os.path.exists("/usr/bin/time") else []
+        began = time.perf_counter()
+        status = subprocess.call([*timed, "timeout", str(limit), *words], stdout=nothing, stderr=nothing)
+        lasted = (time.perf_counter() - began) * 1e3
+        return (lasted, int(told.read().split()[-1]) if timed else 0) if status == 0 else None
 
 
 def best(words, count, limit):
@@ -145,7 +147,7 @@ def measure(given, twin, folder):
                 times.setdefault(name, []).append((size, ours and ours[0]))
                 ratios = ["over the limit"] * 3
                 if ours and theirs:
-                    ratios = ["%.1f" % (ours[0] / theirs[0]), "%.1f" % (ours[0] / reading[0]), "%.1f" % (ours[1] / theirs[1])]
+                    ratios = ["%.1f" % (ours[0] / theirs[0]), "%.1f" % (ours[0] / reading[0]), "%.1f" % (ours[1] / theirs[1]) if theirs[1] else "-"]
                 print("| `%s` | %d | %s |" % (name, size, " | ".join(ratios)), flush=True)
         print("\n| %s, function | growth: exponent of the time of pgr over edges |\n|---|---|" % kind)
         for name, points in times.items():
