@@ -1,0 +1,262 @@
+"""What the pages say of each function and option, and where it stands once.
+
+The tables of words in crates/pgr_words/specs say which functions and options there are. docs/FUNCTIONS.md says in words what
+they do. From the two the parts between marks are made in share/completion/pgr.bash, man/pgr.1 and docs/FROM-PGROUTING.md.
+`write-pages` writes them, and `check-pages` compares them.
+
+In docs/FUNCTIONS.md are read:
+- the lists of functions, each below a line `**Title.** Perhaps a sentence.`, with what each function answers;
+- the table of the forms of values: what stands in code before the first colon is how a value is shown;
+- of a function's section the table of options, or `The options are those of [other]`; the table of columns, or `The columns are
+  those of [other]`, or `The one column is`; a table below the name of an option, whose values it explains; and the lines
+  `- In pgRouting: call; here: command` and `- Unlike pgRouting: what differs`.
+"""
+import os
+import re
+import textwrap
+
+TOP = os.path.realpath(os.path.join(os.path.dirname(os.path.realpath(__file__)), ".."))
+WORDS = "crates/pgr_words/specs"
+REFERENCE = "docs/FUNCTIONS.md"
+
+
+def read(page):
+    with open(os.path.join(TOP, page), encoding="utf-8") as file:
+        return file.read()
+
+
+class Words:
+    """The program's own tables of words: functions with their options, and each option's need, form and the form's values."""
+
+    def __init__(self):
+        rules = re.findall(r'rule_of option\.(\w+) = record \{\s*name = codes "(\w+)";\s*need = (\w+);\s*fill = into (\w+)',
+                           read(WORDS + "/Options.antt"))
+        names = {variant: name for variant, name, _, _ in rules}
+        self.need = {name: need for _, name, need, _ in rules}
+        self.form = {name: form for _, name, _, form in rules}
+        functions = read(WORDS + "/Functions.antt")
+        lists = {name: [names[word.strip()] for word in words.split("∷") if word.strip() != "[]"]
+                 for name, words in re.findall(r"^(\w+_options) = (.*)$", functions, re.M)}
+        self.functions = {name: lists[of] for name, of in re.findall(r'\(codes "(\w+)", \(function\.\w+, (\w+)\)\)', functions)}
+        self.options = [name for name in self.need if any(name in options for options in self.functions.values())]
+        forms = read(WORDS + "/Forms.antt")
+        self.values = {name: re.findall(r'codes "(\w+)"', body) for name, body in re.findall(r"^(\w+) text =((?:.|\n )*)", forms, re.M)}
+
+    def needed(self, function, option):
+        """What the column of defaults says where the option is needed, and nothing where it isn't."""
+        need = self.need[option]
+        if need == "WithoutCombinations" and "combinations" in self.functions[function]:
+            return "needed without `combinations`"
+        return "" if need == "Never" else "needed"
+
+
+def rows(table):
+    return [[cell.strip() for cell in line.strip("| ").split(" | ")] for line in table.splitlines()]
+
+
+def in_code(text):
+    return re.findall(r"`([^`]+)`", text)
+
+
+class Reference:
+    """What docs/FUNCTIONS.md says of the functions and options."""
+
+    def __init__(self, text):
+        parts = re.split(r"^## +", text, flags=re.M)[1:]
+        self.sections = {part.split("\n", 1)[0].strip(): part.split("\n", 1)[1] for part in parts}
+        self.groups = []  # (title, sentence, [(function, answer)])
+        for title, sentence, table in re.findall(r"^\*\*(.+)\.\*\* ?(.*)\n\n\| Function .*\n\|[-|]+\|\n((?:\|.*\n)+)", text, re.M):
+            self.groups.append((title, sentence, [(in_code(row[0])[0], row[1]) for row in rows(table)]))
+        forms = re.search(r"### Forms of values\n\n\|.*\n\|.*\n((?:\|.*\n)+)", text)
+        self.forms = []  # (options, how a value is shown, words)
+        for row in rows(forms.group(1)) if forms else []:
+            shown, colon, words = row[1].partition(": ")
+            self.forms.append((in_code(row[0]), in_code(shown), words if colon else ""))
+
+    def part(self, function, table, others):
+        """The rows of a table of a function's section, or of that of the function to which its section refers."""
+        section = self.sections.get(function, "")
+        found = re.search(r"^\| %s \|.*\n\|[-|]+\|\n((?:\|.*\n)+)" % table, section, re.M)
+        if found:
+            return rows(found.group(1))
+        other = re.search(others + r"\b[^.]*\b(?:is that|are those) of \[`(\w+)`\]", " ".join(section.split()))
+        return self.part(other.group(1), table, others) if other and other.group(1) != function else []
+
+    def options(self, function):
+        """The options of a function: name, default, meaning."""
+        return [(in_code(row[0])[0], row[1], row[2]) for row in self.part(function, "Option", "[Tt]he options?")]
+
+    def columns(self, function):
+        one = re.search(r"The one column is\s+`(\w+)`", self.sections.get(function, ""))
+        return [one.group(1)] if one else [name for row in self.part(function, "Column", "[Tt]he (?:option, the )?columns?") for name in in_code(row[0])]
+
+    def calls(self, function):
+        """pgRouting's calls, each with the command beside it."""
+        return re.findall(r"^- In pgRouting: (.+); here: (`.+`)$", self.sections.get(function, ""), re.M)
+
+    def differs(self, function):
+        found = re.findall(r"^- Unlike pgRouting: (.+(?:\n  .+)*)", self.sections.get(function, ""), re.M)
+        return [" ".join(text.split()) for text in found]
+
+    def explained(self, option):
+        """What each value of an option means, where a section has a table of them."""
+        tables = re.findall(r"^\| `%s` \|.*\n\|[-|]+\|\n((?:\|.*\n)+)" % option, "\n".join(self.sections.values()), re.M)
+        return [(in_code(row[0])[0], row[1]) for table in tables for row in rows(table)]
+
+    def listed(self):
+        return [function for _, _, listed in self.groups for function, _ in listed]
+
+
+def differences(what, found, wanted):
+    """What is missing among those that were found, what is too much, and what stands twice."""
+    lines = ["%s %s is missing" % (what, name) for name in sorted(set(wanted) - set(found))]
+    lines += ["%s %s isn't of the program" % (what, name) for name in sorted(set(found) - set(wanted))]
+    return lines + ["%s %s stands twice" % (what, name) for name in sorted({name for name in found if found.count(name) > 1})]
+
+
+def faults(words, reference):
+    """Where docs/FUNCTIONS.md doesn't say what the parts are made of, or says other than the tables of words."""
+    lines = [] if words.functions and words.options else ["the program's tables of words weren't found"]
+    lines += differences("in the lists: function", reference.listed(), words.functions)
+    lines += differences("in the table of forms: option", [name for names, _, _ in reference.forms for name in names], words.options)
+    for names, shown, form in reference.forms:
+        of = {words.form.get(name) for name in names}
+        if not shown or len(of) > 1 or not form and shown != words.values.get(of.pop()):
+            lines.append("in the table of forms: %s: not one form, or not its values" % ", ".join(names))
+    for function, options in words.functions.items():
+        if function not in reference.sections:
+            lines.append("function %s has no section" % function)
+            continue
+        table = reference.options(function)
+        lines += differences("function %s: option" % function, [name for name, _, _ in table], options)
+        for name, default, _ in table:
+            wanted = words.needed(function, name) if name in options else default
+            if wanted != (default if default.startswith("needed") else ""):
+                lines.append("function %s: option %s is %s" % (function, name, wanted or "not needed"))
+        if not reference.columns(function):
+            lines.append("function %s has no columns" % function)
+        begun = len(re.findall(r"^- In pgRouting", reference.sections[function], re.M))
+        if begun == 0 or begun != len(reference.calls(function)):
+            lines.append("function %s has no line, or a broken one, '- In pgRouting: CALL; here: `COMMAND`'" % function)
+    for name in words.options:
+        defaults = {default for of in words.functions for option, default, _ in reference.options(of) if option == name}
+        if len([default for default in defaults if not default.startswith("needed")]) > 1:
+            lines.append("option %s has several defaults" % name)
+    return [REFERENCE + ": " + line for line in lines]
+
+
+def sentence(text):
+    text = text.rstrip(".")
+    return text[:1].upper() + text[1:] + "."
+
+
+def roff(text):
+    """Words of a page as lines of a manual page."""
+    text = re.sub(r"\[([^]]*)\]\([^)]*\)", r"\1", text).replace("\\", "\\e")
+    text = re.sub(r"(?<![\w])-(?=\w)", r"\\-", text)
+    text = re.sub(r"`([^`]+)`", lambda code: "\\fB%s\\fR" % code.group(1), text)
+    return [re.sub(r"^([.'])", r"\\&\1", line) for line in textwrap.wrap(text, 120, break_long_words=False, break_on_hyphens=False)]
+
+
+def manual_functions(words, reference):
+    lines = []
+    for title, about, listed in reference.groups:
+        lines += [".SS " + title] + roff(about)
+        for function, answer in listed:
+            options = ["[\\fB%s\\fR]" % name if words.need[name] == "Never" else "\\fB%s\\fR" % name for name in words.functions[function]]
+            lines += [".TP", ".B " + function, *roff(sentence(answer)), ".br", " ".join(options)]
+    return lines
+
+
+def manual_options(words, reference):
+    lines, shown = [], {name: shown for names, shown, _ in reference.forms for name in names}
+    for name in words.options:
+        value = "\\fR|".join("\\f%s%s" % ("I" if part.isupper() else "B", part) for part in shown[name])
+        default, meanings = meaning(reference, name)
+        lines += [".TP", "\\fB\\-\\-%s=%s\\fR" % (name, value), *roff(sentence("; ".join(meanings)))]
+        if not default.startswith("needed"):
+            lines += roff("The default is %s." % default)
+        explained = reference.explained(name)
+        if explained:
+            lines += roff("; ".join("`%s`: %s" % pair for pair in explained) + ".")
+    lines.append(".SS Values")
+    for _, parts, form in reference.forms:
+        if form:
+            lines += [".TP", "\\fI%s\\fR" % "|".join(parts), *roff(sentence(form))]
+    return lines
+
+
+def meaning(reference, name):
+    """The default of an option, and what it means to the functions that have it, each meaning once."""
+    meanings, default = [], ""
+    for function in reference.listed():
+        for option, default_here, says in reference.options(function):
+            says = re.sub(r": see .*$", "", says)
+            if option == name:
+                default = default_here
+                meanings += [says] if says not in meanings else []
+    return default, meanings
+
+
+def completion(words, reference):
+    lists, values = {}, {}
+    for function in reference.listed():
+        lists.setdefault(" ".join(words.functions[function]), []).append(function)
+    for name in words.options:
+        if words.values.get(words.form[name]):
+            values.setdefault(" ".join(words.values[words.form[name]]), []).append(name)
+    files = [name for name in words.options if words.form[name] == "file_name"]
+    lines = ["_pgr_functions='%s'" % "\n  ".join(textwrap.wrap(" ".join(reference.listed()), 110)), "", "_pgr_options() {", "  case $1 in"]
+    lines += ["    %s) echo '%s' ;;" % ("|".join(functions), options) for options, functions in lists.items()]
+    lines += ["  esac", "}", "", "_pgr_values() {", "  case $1 in"]
+    lines += ["    %s) echo '%s' ;;" % ("|".join(names), of) for of, names in values.items()]
+    return lines + ["  esac", "}", "", "_pgr_files='%s'" % " ".join(files)]
+
+
+def calls(words, reference):
+    lines, first, before = ["| pgRouting | `pgr` | Columns of `pgr` |", "|---|---|---|"], {}, None
+    for function in reference.listed():
+        columns = ",".join(reference.columns(function))
+        first.setdefault(columns, function)
+        shown = "`%s`" % columns if first[columns] == function else "those of `%s`" % first[columns]
+        for call, command in reference.calls(function):
+            lines.append("| %s | %s | %s |" % (call, command, "the same" if columns == before else shown))
+            before = columns
+    return lines
+
+
+def differs(words, reference):
+    """What differs, function by function; what is said alike of several stands once."""
+    said = {}
+    for function in reference.listed():
+        for text in reference.differs(function):
+            said.setdefault(text, []).append("`%s`" % function)
+    return [line for text, names in said.items()
+            for line in textwrap.wrap("- %s: %s" % (", ".join(names), text), 130, subsequent_indent="  ",
+                                      break_long_words=False, break_on_hyphens=False)]
+
+
+# the page, what it is called there, how the page's comments begin and end, and what makes its lines
+PARTS = [
+    ("share/completion/pgr.bash", "words", "# %s", completion),
+    ("man/pgr.1", "functions", '.\\" %s', manual_functions),
+    ("man/pgr.1", "options", '.\\" %s', manual_options),
+    ("docs/FROM-PGROUTING.md", "calls", "<!-- %s -->", calls),
+    ("docs/FROM-PGROUTING.md", "differences", "<!-- %s -->", differs),
+]
+
+
+def pages(words, reference):
+    """Each page with parts: its name, its text as it stands, and as it is to be, or none where a mark is missing."""
+    texts = {}
+    for page, name, comment, make in PARTS:
+        before, after = texts.get(page, (read(page),) * 2)
+        top = comment % ("%s: written by tools/write-pages from %s and %s, don't edit by hand" % (name, REFERENCE, WORDS))
+        end = comment % ("%s: end of what tools/write-pages writes" % name)
+        gap = "\n" if comment.startswith("<") else ""
+        if after is not None and after.count(top + "\n") == after.count("\n" + end + "\n") == 1 and after.index(top) < after.index(end):
+            after = after[:after.index(top)] + "\n".join([top + gap, *make(words, reference), gap + end]) + after[after.index(end) + len(end):]
+        else:
+            after = None
+        texts[page] = before, after
+    return [(page, before, after) for page, (before, after) in texts.items()]
