@@ -41,7 +41,7 @@ one_content : (known : List ℕ → Option (List ℕ)) (file : File) (bytes othe
 one_content known file bytes other is possible = rw is at possible
 
 -- no file of combinations: no row of them
-no_rows : tables_of [] ≡ record { edges = []; points = []; restrictions = []; combinations = []; capacities = [] }
+no_rows : (tables_of []).combinations ≡ []
 no_rows = refl
 
 -- a row of combinations is asked for, though the lists are empty

@@ -1,5 +1,5 @@
 -- Notes grow by a start at a time, and are one list at most.
-use Rattle.std.proofs.Common.{◌≡◌, ◌≢◌, ℕ, zero, suc, ℤ, pos, ◌+◌, ◌-◌, ◌<◌, ◌⊎◌, ⊎_elim, inl, inr, List, [], ◌∷◌, ◌++◌, length, get_or, take, refl, sym, ap, ◌∙◌, subst, arith, Ordering, Less, Equal, Greater}
+use Rattle.std.proofs.Common.{◌≡◌, ◌≢◌, ℕ, zero, suc, ℤ, pos, ◌+◌, ◌-◌, ◌<◌, ◌⊎◌, ⊎_elim, inl, inr, List, [], ◌∷◌, ◌++◌, length, get_or, take, refl, sym, ap, ◌∙◌, subst, arith, Bool, true, false, Ordering, Less, Equal, Greater}
 use Rattle.std.specs.Prelude.{◌↔◌, All, Any, Contains, Result, Ok, Err, OnOk}
 use Rattle.std.specs.Ordering.{int_cmp, nat_cmp, ordering_reverse}
 use Rattle.std.specs.Cmp.{IsTotalOrder}
@@ -153,10 +153,15 @@ none_noted : (f : Function) (command : Command) (tables : Tables) (notes : List 
 none_noted function.AStar command tables notes other none = absurd (other refl)
 none_noted f command tables notes other none = none
 
+-- whether a function gives notes
+abbrev pub gives_notes : Function → Bool
+gives_notes function.AStar = true
+gives_notes f = false
+
 -- so they are those of a command of such a function
-pub unnoted : {X E : Type 0} (result : Result X E) (command : Command) (tables : Tables) (notes : List Note) → command.function ≢ function.AStar → notes ≡ []
+pub unnoted : {X E : Type 0} (result : Result X E) (command : Command) (tables : Tables) (notes : List Note) → gives_notes command.function ≡ false → notes ≡ []
     → OnOk result (AreNotesOver command tables notes)
-unnoted (Ok x) command tables notes other none = none_noted command.function command tables notes other none
+unnoted (Ok x) command tables notes other none = none_noted command.function command tables notes (λ e. let both : true ≡ false = ap gives_notes (sym e) ∙ other in cc) none
 unnoted (Err e) command tables notes other none = tt
 
 -- two links that are the first to break are the same

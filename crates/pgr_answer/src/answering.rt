@@ -95,6 +95,7 @@ fn judge_together(command: &Command, tables: &Tables) -> Result<(), Refused>
 
 /// The rows that answer a command over its tables, which are accepted together; the notes, of which there are none, become
 /// those that belong to them.
+#[tactic(auto, using(crate::proofs::NoteLemmas::unnoted))]
 fn allowed_rows(
     alloc: Global,
     command: &Command,

@@ -8,6 +8,7 @@ use Rattle.pgr_graph.specs.Restricted.{links_cost, restricted_fault}
 use Rattle.pgr_walks.specs.declared.link.LinkOf.{LinkOf}
 use Rattle.pgr_graph.specs.Arcs.{capacity_along, arc_along, IsArcOfRow}
 use Rattle.pgr_graph.specs.Links.{HasSense, IsLinkOfRow, link_along}
+use Rattle.pgr_graph.specs.RowLinks.{links_of_row}
 use Rattle.pgr_graph.specs.declared.links.Direction.{Direction}
 use Rattle.pgr_graph.specs.declared.links.Direction.TheVariants.{Forward, Backward}
 
@@ -34,9 +35,15 @@ the_opposite_stands_too = (Backward, inl refl, refl)
 one_link_of_a_loop : link_along loop Forward 4 ≡ link_along loop Backward 4
 one_link_of_a_loop = refl
 
--- what the links of a row cost, each once: a self loop with equal costs has one link, an edge with equal costs two
+-- the links of a row and what they cost, each once: a self loop with equal costs has one link, an edge with equal costs two
 abbrev both_ways : EdgeRow
 both_ways = record { id = pos 7; source = pos 1; target = pos 2; cost = pos 4; reverse_cost = pos 4; place = None }
+
+a_loop_is_listed_once : links_of_row false loop ≡ link_along loop Forward 4 ∷ []
+a_loop_is_listed_once = refl
+
+equal_costs_are_listed_each_way : links_of_row false both_ways ≡ link_along both_ways Forward 4 ∷ link_along both_ways Backward 4 ∷ []
+equal_costs_are_listed_each_way = refl
 
 a_loop_counts_once : links_cost false loop ≡ 4
 a_loop_counts_once = refl

@@ -1,160 +1,240 @@
--- What a row appends to a list of links: the links that it gives.
-use Rattle.std.proofs.Common.{◌≡◌, ℕ, ◌⊎◌, ◌↔◌, inl, inr, ⊎_elim, ℤ, pos, negsuc, List, ◌++◌, true, false, Option, Some, None, refl, sym, ap, subst, ◌∙◌}
+-- The links of rows, row by row: exactly those that the rows give, each once where the ids of the rows are distinct.
+use Rattle.std.proofs.Common.{◌≡◌, ◌≢◌, ℕ, ◌+◌, ◌⊎◌, inl, inr, ⊎_elim, ℤ, pos, negsuc, List, [], ◌∷◌, ◌++◌, map, take, Bool, true, false, if◌then◌else◌, Option, Some, slice_get, refl, sym, ap, subst, ◌∙◌}
 use Rattle.std.specs.List.{Contains}
 use Rattle.std.specs.Option.{option_to_list}
-use Rattle.std.proofs.lemmas.List.{append-nil}
-use Rattle.std.proofs.lemmas.List.Elements.{Contains-append_left, Contains-push, Contains-push_cases}
+use Rattle.std.specs.Ordering.{int_eq}
+use Rattle.std.proofs.lemmas.Bool.Decides.{Decides-int_eq}
+use Rattle.std.proofs.lemmas.List.{append-nil, append_assoc}
+use Rattle.pgr_outside.specs.Lists.{IsWithoutRepeats}
+use Rattle.pgr_outside.proofs.Lists.{take_one_more}
 use Rattle.pgr_walks.specs.declared.link.LinkOf.{LinkOf}
+use Rattle.pgr_walks.proofs.Repeats.{Among, Apart, Apart-from_IsWithoutRepeats}
+use Rattle.pgr_walks.proofs.Membership.{Among-from_Contains, Contains-from_Among, Among-left, Among-right, Among-cases, Among-map}
 use Rattle.pgr_table.specs.declared.row.EdgeRow.{EdgeRow}
 use Rattle.pgr_graph.specs.declared.links.Direction.{Direction}
 use Rattle.pgr_graph.specs.declared.links.Direction.TheVariants.{Forward, Backward}
-use Rattle.pgr_graph.specs.Links.{HasSense, link_along, IsLinkOfRow}
+use Rattle.pgr_graph.specs.Links.{HasSense, link_along, IsLinkOfRow, IsLinkOfTable}
 use Rattle.pgr_graph.specs.Senses.{link_of_sense}
+use Rattle.pgr_graph.specs.RowLinks.{links_along, links_of_row}
 
--- a list with one more element, if there is one, contains what it did and that element
-option_cases : {X : Type 0} (xs : List X) (o : Option X) (x : X) → Contains (xs ++ option_to_list o) x → Contains xs x ⊎ (o ≡ Some x)
-option_cases {X} xs None x h = let P : List X → Type 0 = λ ys. Contains ys x in inl (subst P (append-nil xs) h)
-option_cases xs (Some y) x h = ⊎_elim inl (λ e. inr (ap Some e)) (Contains-push_cases xs y x h)
+Apart-append : {X : Type 0} (xs ys : List X) → Apart xs → Apart ys → ((x : X) → Among x xs → Among x ys → ⊥) → Apart (xs ++ ys)
+Apart-append [] ys a b none = b
+Apart-append (x ∷ xs) ys a b none = (
+  λ among. ⊎_elim a.0 (none x (inl refl)) (Among-cases x xs ys among),
+  Apart-append xs ys a.1 b (λ z h k. none z (inr h) k),
+)
 
-option_left : {X : Type 0} (xs : List X) (o : Option X) (x : X) → Contains xs x → Contains (xs ++ option_to_list o) x
-option_left xs o x h = Contains-append_left xs (option_to_list o) x h
+-- a link along a row has its edge and its cost
+along_edge : (row : EdgeRow) (direction : Direction) (n : ℕ) → (link_along row direction n).edge ≡ row.id
+along_edge row Forward n = refl
+along_edge row Backward n = refl
 
-option_right : {X : Type 0} (xs : List X) (o : Option X) (x : X) → o ≡ Some x → Contains (xs ++ option_to_list o) x
-option_right {X} xs o x e = let P : Option X → Type 0 = λ p. Contains (xs ++ option_to_list p) x in subst P (sym e) (Contains-push xs x)
+pub along_cost : (row : EdgeRow) (direction : Direction) (n : ℕ) → (link_along row direction n).cost ≡ n
+along_cost row Forward n = refl
+along_cost row Backward n = refl
 
--- a sense gives a link where the cost is the link's, and the link is that along the row
-Gives : EdgeRow → Direction → ℤ → LinkOf ℤ → Type 0
-Gives row direction cost link = (cost ≡ pos link.cost) × (link ≡ link_along row direction link.cost)
+-- what one direction of a row gives for a cost, as a list
+abbrev pub sense : EdgeRow → Direction → ℤ → List (LinkOf ℤ)
+sense row direction cost = option_to_list (link_of_sense row direction cost)
 
-cost_of_along : (row : EdgeRow) (direction : Direction) (cost : ℕ) → (link_along row direction cost).cost ≡ cost
-cost_of_along row Forward cost = refl
-cost_of_along row Backward cost = refl
+among_sense : (row : EdgeRow) (direction : Direction) (cost : ℤ) (link : LinkOf ℤ) → Among link (sense row direction cost)
+    → (cost ≡ pos link.cost) × (link ≡ link_along row direction link.cost)
+among_sense row direction (pos n) link (inl e) =
+    let cost : n ≡ link.cost = sym (along_cost row direction n) ∙ ap (λ (l : LinkOf ℤ). l.cost) e in
+    (ap pos cost, sym e ∙ ap (link_along row direction) cost)
+among_sense row direction (pos n) link (inr h) = absurd h
+among_sense row direction (negsuc n) link h = absurd h
 
-gives_from_link : (row : EdgeRow) (direction : Direction) (cost : ℤ) (link : LinkOf ℤ) → link_of_sense row direction cost ≡ Some link → Gives row direction cost link
-unfolding Gives
-gives_from_link row direction (pos n) link e =
-    let same : link_along row direction n ≡ link = cc in
-    let cost : n ≡ link.cost = sym (cost_of_along row direction n) ∙ ap (λ (l : LinkOf ℤ). l.cost) same in
-    (ap pos cost, sym same ∙ ap (link_along row direction) cost)
-gives_from_link row direction (negsuc n) link e = cc
+sense_among : (row : EdgeRow) (direction : Direction) (cost : ℤ) (link : LinkOf ℤ) → cost ≡ pos link.cost → link ≡ link_along row direction link.cost
+    → Among link (sense row direction cost)
+sense_among row direction (pos n) link has is = let cost : n ≡ link.cost = cc has in inl (ap (link_along row direction) cost ∙ sym is)
+sense_among row direction (negsuc n) link has is = cc has
 
-link_from_gives : (row : EdgeRow) (direction : Direction) (cost : ℤ) (link : LinkOf ℤ) → Gives row direction cost link → link_of_sense row direction cost ≡ Some link
-unfolding Gives
-link_from_gives row direction cost link h = ap (link_of_sense row direction) h.0 ∙ ap Some (sym h.1)
+apart_sense : (row : EdgeRow) (direction : Direction) (cost : ℤ) → Apart (sense row direction cost)
+apart_sense row direction (pos n) = (λ h. h, tt)
+apart_sense row direction (negsuc n) = tt
 
--- what a row gives in the directed graph
-directed_cases : (row : EdgeRow) (link : LinkOf ℤ) (direction : Direction) → HasSense true row direction link.cost → link ≡ link_along row direction link.cost
-    → Gives row Forward row.cost link ⊎ Gives row Backward row.reverse_cost link
-unfolding Gives
-directed_cases row link Forward sense along = inl (sense, along)
-directed_cases row link Backward sense along = inr (sense, along)
+-- both costs of a row in one direction, by whether they are equal
+abbrev pub both_by : Bool → EdgeRow → Direction → List (LinkOf ℤ)
+both_by same row direction = if same then sense row direction row.cost else sense row direction row.cost ++ sense row direction row.reverse_cost
 
-directed_from : (row : EdgeRow) (link : LinkOf ℤ) → Gives row Forward row.cost link ⊎ Gives row Backward row.reverse_cost link → IsLinkOfRow true row link
-unfolding Gives
-directed_from row link (inl h) = (Forward, h.0, h.1)
-directed_from row link (inr h) = (Backward, h.0, h.1)
+among_both : (row : EdgeRow) (direction : Direction) (link : LinkOf ℤ) → Among link (links_along row direction)
+    → ((row.cost ≡ pos link.cost) ⊎ (row.reverse_cost ≡ pos link.cost)) × (link ≡ link_along row direction link.cost)
+among_both row direction link = by (int_eq row.cost row.reverse_cost)
+  where
+    by : (same : Bool) → Among link (both_by same row direction)
+        → ((row.cost ≡ pos link.cost) ⊎ (row.reverse_cost ≡ pos link.cost)) × (link ≡ link_along row direction link.cost)
+    by true h = let a = among_sense row direction row.cost link h in (inl a.0, a.1)
+    by false h = ⊎_elim
+        (λ k. let a = among_sense row direction row.cost link k in (inl a.0, a.1))
+        (λ k. let a = among_sense row direction row.reverse_cost link k in (inr a.0, a.1))
+        (Among-cases link (sense row direction row.cost) (sense row direction row.reverse_cost) h)
 
--- what it gives in the undirected graph: both ways with each cost
-undirected_cases : (row : EdgeRow) (link : LinkOf ℤ) (direction : Direction) → HasSense false row direction link.cost
-    → link ≡ link_along row direction link.cost
-    → (Gives row Forward row.cost link ⊎ Gives row Backward row.reverse_cost link) ⊎ (Gives row Backward row.cost link ⊎ Gives row Forward row.reverse_cost link)
-unfolding Gives
-undirected_cases row link Forward (inl sense) along = inl (inl (sense, along))
-undirected_cases row link Forward (inr sense) along = inr (inr (sense, along))
-undirected_cases row link Backward (inl sense) along = inr (inl (sense, along))
-undirected_cases row link Backward (inr sense) along = inl (inr (sense, along))
+both_among : (row : EdgeRow) (direction : Direction) (link : LinkOf ℤ) → (row.cost ≡ pos link.cost) ⊎ (row.reverse_cost ≡ pos link.cost)
+    → link ≡ link_along row direction link.cost → Among link (links_along row direction)
+both_among row direction link has is = by (int_eq row.cost row.reverse_cost) (Decides-int_eq row.cost row.reverse_cost).0 has
+  where
+    by : (same : Bool) → (same ≡ true → row.cost ≡ row.reverse_cost) → (row.cost ≡ pos link.cost) ⊎ (row.reverse_cost ≡ pos link.cost)
+        → Among link (both_by same row direction)
+    by true equal (inl e) = sense_among row direction row.cost link e is
+    by true equal (inr e) = sense_among row direction row.cost link (equal refl ∙ e) is
+    by false equal (inl e) = Among-left link (sense row direction row.cost) (sense row direction row.reverse_cost) (sense_among row direction row.cost link e is)
+    by false equal (inr e) = Among-right link (sense row direction row.cost) (sense row direction row.reverse_cost) (sense_among row direction row.reverse_cost link e is)
 
-undirected_from : (row : EdgeRow) (link : LinkOf ℤ)
-    → (Gives row Forward row.cost link ⊎ Gives row Backward row.reverse_cost link) ⊎ (Gives row Backward row.cost link ⊎ Gives row Forward row.reverse_cost link)
-    → IsLinkOfRow false row link
-unfolding Gives
-undirected_from row link (inl (inl h)) = (Forward, inl h.0, h.1)
-undirected_from row link (inl (inr h)) = (Backward, inr h.0, h.1)
-undirected_from row link (inr (inl h)) = (Backward, inl h.0, h.1)
-undirected_from row link (inr (inr h)) = (Forward, inr h.0, h.1)
+apart_both : (row : EdgeRow) (direction : Direction) → Apart (links_along row direction)
+apart_both row direction = by (int_eq row.cost row.reverse_cost) (Decides-int_eq row.cost row.reverse_cost).1
+  where
+    by : (same : Bool) → (row.cost ≡ row.reverse_cost → same ≡ true) → Apart (both_by same row direction)
+    by true same = apart_sense row direction row.cost
+    by false same = Apart-append (sense row direction row.cost) (sense row direction row.reverse_cost) (apart_sense row direction row.cost)
+        (apart_sense row direction row.reverse_cost)
+        (λ link h k. cc (same ((among_sense row direction row.cost link h).0 ∙ sym (among_sense row direction row.reverse_cost link k).0)))
 
--- the list with one link more, where the row gives it
-with : EdgeRow → Direction → ℤ → List (LinkOf ℤ) → List (LinkOf ℤ)
-with row direction cost links = links ++ option_to_list (link_of_sense row direction cost)
+-- of a row that is no self loop no link is both one way and the other
+one_way : (row : EdgeRow) (link : LinkOf ℤ) → row.source ≢ row.target → link ≡ link_along row Forward link.cost → link ≡ link_along row Backward link.cost → ⊥
+one_way row link apart there back = apart (sym (ap (λ (l : LinkOf ℤ). l.from) there) ∙ ap (λ (l : LinkOf ℤ). l.from) back)
 
-with_cases : (row : EdgeRow) (direction : Direction) (cost : ℤ) (links : List (LinkOf ℤ)) (link : LinkOf ℤ) → Contains (with row direction cost links) link
-    → Contains links link ⊎ Gives row direction cost link
-unfolding with
-with_cases row direction cost links link h = ⊎_elim inl (λ e. inr (gives_from_link row direction cost link e)) (option_cases links (link_of_sense row direction cost) link h)
+-- of a self loop the links both ways are the same
+same_ways : (row : EdgeRow) (n : ℕ) → row.source ≡ row.target → link_along row Backward n ≡ link_along row Forward n
+same_ways row n e = cc e
 
-with_left : (row : EdgeRow) (direction : Direction) (cost : ℤ) (links : List (LinkOf ℤ)) (link : LinkOf ℤ) → Contains links link → Contains (with row direction cost links) link
-unfolding with
-with_left row direction cost links link h = option_left links (link_of_sense row direction cost) link h
+-- the links of a row, by whether it is a self loop
+abbrev pub links_by : Bool → Bool → EdgeRow → List (LinkOf ℤ)
+links_by loop directed row =
+    if loop then links_along row Forward
+    else if directed then sense row Forward row.cost ++ sense row Backward row.reverse_cost
+    else links_along row Forward ++ links_along row Backward
 
-with_right : (row : EdgeRow) (direction : Direction) (cost : ℤ) (links : List (LinkOf ℤ)) (link : LinkOf ℤ) → Gives row direction cost link
-    → Contains (with row direction cost links) link
-unfolding with
-with_right row direction cost links link h = option_right links (link_of_sense row direction cost) link (link_from_gives row direction cost link h)
+apart_by : (loop directed : Bool) (row : EdgeRow) → (loop ≡ false → row.source ≢ row.target) → Apart (links_by loop directed row)
+apart_by true directed row none = apart_both row Forward
+apart_by false true row none = Apart-append (sense row Forward row.cost) (sense row Backward row.reverse_cost) (apart_sense row Forward row.cost)
+    (apart_sense row Backward row.reverse_cost)
+    (λ link h k. one_way row link (none refl) (among_sense row Forward row.cost link h).1 (among_sense row Backward row.reverse_cost link k).1)
+apart_by false false row none = Apart-append (links_along row Forward) (links_along row Backward) (apart_both row Forward) (apart_both row Backward)
+    (λ link h k. one_way row link (none refl) (among_both row Forward link h).1 (among_both row Backward link k).1)
 
--- forward with the one cost and then backward with the other
-both_cases : (row : EdgeRow) (there back : Direction) (cost other : ℤ) (links : List (LinkOf ℤ)) (link : LinkOf ℤ)
-    → Contains (with row back other (with row there cost links)) link → Contains links link ⊎ (Gives row there cost link ⊎ Gives row back other link)
-both_cases row there back cost other links link h =
-    ⊎_elim (λ k. ⊎_elim inl (λ g. inr (inl g)) (with_cases row there cost links link k)) (λ g. inr (inr g)) (with_cases row back other (with row there cost links) link h)
+given_by : (loop directed : Bool) (row : EdgeRow) (link : LinkOf ℤ) → (loop ≡ true → row.source ≡ row.target) → Among link (links_by loop directed row)
+    → IsLinkOfRow directed row link
+given_by true true row link same h =
+    let a = among_both row Forward link h in
+    ⊎_elim (λ e. (Forward, e, a.1)) (λ e. (Backward, e, a.1 ∙ sym (same_ways row link.cost (same refl)))) a.0
+given_by true false row link same h = let a = among_both row Forward link h in (Forward, a.0, a.1)
+given_by false true row link same h = ⊎_elim
+    (λ k. let a = among_sense row Forward row.cost link k in (Forward, a.0, a.1))
+    (λ k. let a = among_sense row Backward row.reverse_cost link k in (Backward, a.0, a.1))
+    (Among-cases link (sense row Forward row.cost) (sense row Backward row.reverse_cost) h)
+given_by false false row link same h = ⊎_elim
+    (λ k. let a = among_both row Forward link k in (Forward, a.0, a.1))
+    (λ k. let a = among_both row Backward link k in (Backward, a.0, a.1))
+    (Among-cases link (links_along row Forward) (links_along row Backward) h)
 
-both_from : (row : EdgeRow) (there back : Direction) (cost other : ℤ) (links : List (LinkOf ℤ)) (link : LinkOf ℤ)
-    → Contains links link ⊎ (Gives row there cost link ⊎ Gives row back other link) → Contains (with row back other (with row there cost links)) link
-both_from row there back cost other links link (inl h) = with_left row back other _ link (with_left row there cost links link h)
-both_from row there back cost other links link (inr (inl g)) = with_left row back other _ link (with_right row there cost links link g)
-both_from row there back cost other links link (inr (inr g)) = with_right row back other _ link g
+by_given : (loop directed : Bool) (row : EdgeRow) (link : LinkOf ℤ) → (loop ≡ true → row.source ≡ row.target) → (direction : Direction)
+    → HasSense directed row direction link.cost → link ≡ link_along row direction link.cost → Among link (links_by loop directed row)
+by_given true true row link same Forward has is = both_among row Forward link (inl has) is
+by_given true true row link same Backward has is = both_among row Forward link (inr has) (is ∙ same_ways row link.cost (same refl))
+by_given true false row link same Forward has is = both_among row Forward link has is
+by_given true false row link same Backward has is = both_among row Forward link has (is ∙ same_ways row link.cost (same refl))
+by_given false true row link same Forward has is = Among-left link (sense row Forward row.cost) (sense row Backward row.reverse_cost) (sense_among row Forward row.cost link has is)
+by_given false true row link same Backward has is = Among-right link (sense row Forward row.cost) (sense row Backward row.reverse_cost)
+    (sense_among row Backward row.reverse_cost link has is)
+by_given false false row link same Forward has is = Among-left link (links_along row Forward) (links_along row Backward) (both_among row Forward link has is)
+by_given false false row link same Backward has is = Among-right link (links_along row Forward) (links_along row Backward) (both_among row Backward link has is)
 
--- the list after the two links of the directed graph
-directed_is : (row : EdgeRow) (before after : List (LinkOf ℤ))
-    → after ≡ (before ++ option_to_list (link_of_sense row Forward row.cost)) ++ option_to_list (link_of_sense row Backward row.reverse_cost)
-    → (link : LinkOf ℤ) → Contains after link ↔ (Contains before link ⊎ IsLinkOfRow true row link)
-unfolding with
-directed_is row before after e link =
-    let P : List (LinkOf ℤ) → Type 0 = λ links. Contains links link in (
-      λ h. ⊎_elim inl (λ g. inr (directed_from row link g)) (both_cases row Forward Backward row.cost row.reverse_cost before link (subst P e h)),
-      ⊎_elim (λ h. subst P (sym e) (both_from row Forward Backward row.cost row.reverse_cost before link (inl h)))
-          (λ h. subst P (sym e) (both_from row Forward Backward row.cost row.reverse_cost before link (inr (directed_cases row link h.0 h.1 h.2)))),
-    )
+loop_yes : (row : EdgeRow) → int_eq row.source row.target ≡ true → row.source ≡ row.target
+loop_yes row = (Decides-int_eq row.source row.target).0
 
--- the list after the four links of the undirected graph
-undirected_is : (row : EdgeRow) (before after : List (LinkOf ℤ))
-    → after ≡ (((before ++ option_to_list (link_of_sense row Forward row.cost)) ++ option_to_list (link_of_sense row Backward row.reverse_cost)) ++
-    option_to_list (link_of_sense row Backward row.cost)) ++ option_to_list (link_of_sense row Forward row.reverse_cost)
-    → (link : LinkOf ℤ) → Contains after link ↔ (Contains before link ⊎ IsLinkOfRow false row link)
-unfolding with
-undirected_is row before after e link =
-    let P : List (LinkOf ℤ) → Type 0 = λ links. Contains links link in
-    let first = with row Backward row.reverse_cost (with row Forward row.cost before) in (
-      λ h. ⊎_elim
-          (λ k. ⊎_elim inl (λ g. inr (undirected_from row link (inl g))) (both_cases row Forward Backward row.cost row.reverse_cost before link k))
-          (λ g. inr (undirected_from row link (inr g)))
-          (both_cases row Backward Forward row.cost row.reverse_cost first link (subst P e h)),
-      ⊎_elim
-          (λ h. subst P (sym e) (both_from row Backward Forward row.cost row.reverse_cost first link
-          (inl (both_from row Forward Backward row.cost row.reverse_cost before link (inl h)))))
-          (λ h. subst P (sym e) (both_from row Backward Forward row.cost row.reverse_cost first link
-          (⊎_elim (λ g. inl (both_from row Forward Backward row.cost row.reverse_cost before link (inr g))) inr (undirected_cases row link h.0 h.1 h.2)))),
-    )
+loop_no : (row : EdgeRow) → int_eq row.source row.target ≡ false → row.source ≢ row.target
+loop_no row apart same = cc ((Decides-int_eq row.source row.target).1 same)
 
--- the same, step by step
-pub directed_steps : (row : EdgeRow) (before middle after : List (LinkOf ℤ)) (o p : Option (LinkOf ℤ)) → o ≡ link_of_sense row Forward row.cost
-    → middle ≡ before ++ option_to_list o → p ≡ link_of_sense row Backward row.reverse_cost → after ≡ middle ++ option_to_list p → (link : LinkOf ℤ)
-    → Contains after link ↔ (Contains before link ⊎ IsLinkOfRow true row link)
-directed_steps row before middle after o p o_is middle_is p_is after_is =
-    let e : after ≡ (before ++ option_to_list (link_of_sense row Forward row.cost)) ++ option_to_list (link_of_sense row Backward row.reverse_cost) = after_is
-    ∙ (ap (λ links. links ++ option_to_list p) middle_is ∙ (ap (λ x. (before ++ option_to_list x) ++ option_to_list p) o_is ∙ ap
-    (λ x. (before ++ option_to_list (link_of_sense row Forward row.cost)) ++ option_to_list x) p_is)) in
-    directed_is row before after e
+-- the links of one direction where the costs differ, and of the directed graph where the ends do, as they are appended
+two_more : (before middle after : List (LinkOf ℤ)) (o p x y : Option (LinkOf ℤ)) → o ≡ x → middle ≡ before ++ option_to_list o → p ≡ y
+    → after ≡ middle ++ option_to_list p → after ≡ before ++ (option_to_list x ++ option_to_list y)
+two_more before middle after o p x y o_is middle_is p_is after_is =
+    after_is ∙ (ap (λ list. list ++ option_to_list p) middle_is ∙ (ap (λ z. (before ++ option_to_list z) ++ option_to_list p) o_is
+    ∙ (ap (λ z. (before ++ option_to_list x) ++ option_to_list z) p_is ∙ append_assoc before (option_to_list x) (option_to_list y))))
 
-pub undirected_steps : (row : EdgeRow) (before first second third after : List (LinkOf ℤ)) (o p q r : Option (LinkOf ℤ))
-    → o ≡ link_of_sense row Forward row.cost → first ≡ before ++ option_to_list o → p ≡ link_of_sense row Backward row.reverse_cost
-    → second ≡ first ++ option_to_list p → q ≡ link_of_sense row Backward row.cost → third ≡ second ++ option_to_list q
-    → r ≡ link_of_sense row Forward row.reverse_cost → after ≡ third ++ option_to_list r → (link : LinkOf ℤ)
-    → Contains after link ↔ (Contains before link ⊎ IsLinkOfRow false row link)
-undirected_steps row before first second third after o p q r o_is first_is p_is second_is q_is third_is r_is after_is =
-    let e_1 : first ≡ before ++ option_to_list (link_of_sense row Forward row.cost) = first_is ∙ ap (λ x. before ++ option_to_list x) o_is in
-    let e_2 : second ≡ (before ++ option_to_list (link_of_sense row Forward row.cost)) ++ option_to_list (link_of_sense row Backward row.reverse_cost) =
-    second_is ∙ (ap (λ x. first ++ option_to_list x) p_is ∙ ap (λ x. x ++ option_to_list (link_of_sense row Backward row.reverse_cost)) e_1) in
-    let e_3 : third ≡ ((before ++ option_to_list (link_of_sense row Forward row.cost)) ++ option_to_list (link_of_sense row Backward row.reverse_cost)) ++
-    option_to_list (link_of_sense row Backward row.cost) = third_is ∙ (ap (λ x. second ++ option_to_list x) q_is ∙ ap
-    (λ x. x ++ option_to_list (link_of_sense row Backward row.cost)) e_2) in
-    undirected_is row before after (after_is ∙ (ap (λ x. third ++ option_to_list x) r_is ∙ ap (λ x. x ++ option_to_list (link_of_sense row Forward row.reverse_cost)) e_3))
+pub costs_differ : (row : EdgeRow) (direction : Direction) (before middle after : List (LinkOf ℤ)) (o p : Option (LinkOf ℤ)) → row.cost ≢ row.reverse_cost
+    → o ≡ link_of_sense row direction row.cost → middle ≡ before ++ option_to_list o → p ≡ link_of_sense row direction row.reverse_cost
+    → after ≡ middle ++ option_to_list p → after ≡ before ++ links_along row direction
+costs_differ row direction before middle after o p differ o_is middle_is p_is after_is = by (int_eq row.cost row.reverse_cost) (Decides-int_eq row.cost row.reverse_cost).0
+  where
+    by : (same : Bool) → (same ≡ true → row.cost ≡ row.reverse_cost) → after ≡ before ++ both_by same row direction
+    by true equal = absurd (differ (equal refl))
+    by false equal = two_more before middle after o p (link_of_sense row direction row.cost) (link_of_sense row direction row.reverse_cost) o_is middle_is p_is after_is
+
+pub ends_differ : (row : EdgeRow) (directed : Bool) (before middle after : List (LinkOf ℤ)) (o p : Option (LinkOf ℤ)) → directed ≡ true → row.source ≢ row.target
+    → o ≡ link_of_sense row Forward row.cost → middle ≡ before ++ option_to_list o → p ≡ link_of_sense row Backward row.reverse_cost
+    → after ≡ middle ++ option_to_list p → after ≡ before ++ links_of_row directed row
+ends_differ row directed before middle after o p one_way_is differ o_is middle_is p_is after_is = by (int_eq row.source row.target) directed (loop_yes row) one_way_is
+  where
+    by : (loop directed : Bool) → (loop ≡ true → row.source ≡ row.target) → directed ≡ true → after ≡ before ++ links_by loop directed row
+    by true directed same is = absurd (differ (same refl))
+    by false true same is = two_more before middle after o p (link_of_sense row Forward row.cost) (link_of_sense row Backward row.reverse_cost) o_is middle_is p_is after_is
+    by false false same is = cc is
+
+-- the links of a row are those that it gives
+row_gives : (directed : Bool) (row : EdgeRow) (link : LinkOf ℤ) → Among link (links_of_row directed row) → IsLinkOfRow directed row link
+row_gives directed row link h = given_by (int_eq row.source row.target) directed row link (loop_yes row) h
+
+gives_row : (directed : Bool) (row : EdgeRow) (link : LinkOf ℤ) → IsLinkOfRow directed row link → Among link (links_of_row directed row)
+gives_row directed row link has = by_given (int_eq row.source row.target) directed row link (loop_yes row) has.0 has.1 has.2
+
+row_edge : (directed : Bool) (row : EdgeRow) (link : LinkOf ℤ) → Among link (links_of_row directed row) → link.edge ≡ row.id
+row_edge directed row link h =
+    let given = row_gives directed row link h in ap (λ (l : LinkOf ℤ). l.edge) given.2 ∙ along_edge row given.0 link.cost
+
+-- the links of all rows
+abbrev pub links_of_rows : Bool → List EdgeRow → List (LinkOf ℤ)
+links_of_rows directed [] = []
+links_of_rows directed (row ∷ rows) = links_of_row directed row ++ links_of_rows directed rows
+
+links-push : (directed : Bool) (rows : List EdgeRow) (row : EdgeRow) → links_of_rows directed (rows ++ row ∷ []) ≡ links_of_rows directed rows ++ links_of_row directed row
+links-push directed [] row = append-nil (links_of_row directed row)
+links-push directed (first ∷ rows) row = ap (λ list. links_of_row directed first ++ list) (links-push directed rows row)
+    ∙ sym (append_assoc (links_of_row directed first) (links_of_rows directed rows) (links_of_row directed row))
+
+-- one row more gives its links
+pub links-more : (directed : Bool) (rows : List EdgeRow) (i : ℕ) (row : EdgeRow) (before after : List (LinkOf ℤ)) → slice_get rows i ≡ Some row
+    → before ≡ links_of_rows directed (take i rows) → after ≡ before ++ links_of_row directed row → after ≡ links_of_rows directed (take (i + 1) rows)
+links-more directed rows i row before after here before_is after_is =
+    after_is ∙ (ap (λ list. list ++ links_of_row directed row) before_is
+    ∙ (sym (links-push directed (take i rows) row) ∙ sym (ap (links_of_rows directed) (take_one_more rows i row here))))
+
+-- a link of rows is one of some row
+among_rows : (directed : Bool) (rows : List EdgeRow) (link : LinkOf ℤ) → Among link (links_of_rows directed rows)
+    → (row : EdgeRow) × Among row rows × Among link (links_of_row directed row)
+among_rows directed [] link h = absurd h
+among_rows directed (row ∷ rows) link h = ⊎_elim (λ k. (row, inl refl, k)) (λ k. let more = among_rows directed rows link k in (more.0, inr more.1, more.2))
+    (Among-cases link (links_of_row directed row) (links_of_rows directed rows) h)
+
+rows_among : (directed : Bool) (rows : List EdgeRow) (link : LinkOf ℤ) (row : EdgeRow) → Among row rows → Among link (links_of_row directed row)
+    → Among link (links_of_rows directed rows)
+rows_among directed [] link row h k = absurd h
+rows_among directed (first ∷ rows) link row (inl e) k = Among-left link (links_of_row directed first) (links_of_rows directed rows)
+    (subst (λ (r : EdgeRow). Among link (links_of_row directed r)) (sym e) k)
+rows_among directed (first ∷ rows) link row (inr h) k = Among-right link (links_of_row directed first) (links_of_rows directed rows)
+    (rows_among directed rows link row h k)
+
+-- the links of rows with different ids are different
+apart_rows : (directed : Bool) (rows : List EdgeRow) → Apart (map (λ (r : EdgeRow). r.id) rows) → Apart (links_of_rows directed rows)
+apart_rows directed [] apart = tt
+apart_rows directed (row ∷ rows) apart = Apart-append (links_of_row directed row) (links_of_rows directed rows)
+    (apart_by (int_eq row.source row.target) directed row (loop_no row)) (apart_rows directed rows apart.1) (λ link h k.
+    let later = among_rows directed rows link k in
+    let here = row_edge directed row link h in
+    let behind = row_edge directed later.0 link later.2 in
+    apart.0 (subst (λ (id : ℤ). Among id (map (λ (r : EdgeRow). r.id) rows)) (sym behind ∙ here) (Among-map (λ (r : EdgeRow). r.id) rows later.0 later.1)))
+
+pub rows_apart : (directed : Bool) (rows : List EdgeRow) → IsWithoutRepeats (map (λ (r : EdgeRow). r.id) rows) → Apart (links_of_rows directed rows)
+rows_apart directed rows ids = apart_rows directed rows (Apart-from_IsWithoutRepeats (map (λ (r : EdgeRow). r.id) rows) ids)
+
+-- they are the links of the table
+pub table_from_rows : (directed : Bool) (rows : List EdgeRow) (link : LinkOf ℤ) → Contains (links_of_rows directed rows) link → IsLinkOfTable rows directed link
+table_from_rows directed rows link h =
+    let at = among_rows directed rows link (Among-from_Contains link (links_of_rows directed rows) h) in
+    let place = Contains-from_Among at.0 rows at.1 in
+    (place.0, at.0, place.1, place.2, row_gives directed at.0 link at.2)
+
+pub rows_from_table : (directed : Bool) (rows : List EdgeRow) (link : LinkOf ℤ) → IsLinkOfTable rows directed link → Contains (links_of_rows directed rows) link
+rows_from_table directed rows link has = Contains-from_Among link (links_of_rows directed rows)
+    (rows_among directed rows link has.1 (Among-from_Contains has.1 rows (has.0, has.2, has.3)) (gives_row directed has.1 link has.4))

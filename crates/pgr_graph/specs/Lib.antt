@@ -1,5 +1,6 @@
 pub mod Links
 pub mod Senses
+pub mod RowLinks
 pub mod Arcs
 pub mod ArcSenses
 pub use Rattle.pgr_walks.specs.Link

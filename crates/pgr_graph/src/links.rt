@@ -1,11 +1,13 @@
-ghost use Rattle.std.specs.Prelude.{◌≡◌, ◌⊎◌, ◌↔◌, ◌++◌, ◌+◌, ◌*◌, ◌≤◌, ℤ, Contains, IfOk, OnOk, length, vec_len};
+ghost use Rattle.std.specs.Prelude.{◌≡◌, ◌↔◌, ◌++◌, ◌+◌, ◌*◌, ◌≤◌, ℤ, Contains, IfOk, OnOk, length, vec_len};
 ghost use Rattle.std.specs.Option.{option_to_list};
 ghost use Rattle.std.specs.Ordering.{int_cmp};
+ghost use Rattle.pgr_outside.specs.Lists.{IsWithoutRepeats};
 ghost use Rattle.pgr_walks.specs.declared.link.LinkOf.{LinkOf};
 ghost use Rattle.pgr_walks.specs.Link.{link_cmp};
 ghost use Rattle.pgr_walks.specs.Graph.{IsStrictlyRising};
-ghost use Rattle.pgr_graph.specs.Links.{IsLinkOfRow, IsLinkOfTable};
+ghost use Rattle.pgr_graph.specs.Links.{IsLinkOfTable};
 ghost use Rattle.pgr_graph.specs.Senses.{link_of_sense};
+ghost use Rattle.pgr_graph.specs.RowLinks.{links_along, links_of_row};
 
 use pgr_outside::NoMemory;
 use pgr_table::{EdgeRow, EdgeTable};
@@ -37,36 +39,67 @@ pub fn links_of(
     ensures rising { IfOk result (λ links. IsStrictlyRising (link_cmp int_cmp) links.items) }
     ensures few { IfOk result (λ links. vec_len links ≤ 4 * length table.now) }
 {
+    let mut links = links_by_row(alloc, table, directed)?;
+    links.sort_unstable();
+    Ok(links)
+}
+
+/// The links of a table, each once, row by row.
+///
+/// They are the links that [`links_of`] lists, for a caller that needs no order. Two rows never give the same link, since
+/// their ids differ, so a repeat could stand only within a row, and nothing is sorted. `NoMemory` may come at any call.
+pub fn links_by_row(
+    alloc: Global,
+    table: &EdgeTable,
+    directed: bool,
+) -> Result<Vec<NamedLink>, NoMemory>
+    ensures links { IfOk result
+        (λ links. (link : LinkOf ℤ) → Contains links.items link ↔ IsLinkOfTable table.now directed link) }
+    ensures once { IfOk result (λ links. IsWithoutRepeats links.items) }
+    ensures few { IfOk result (λ links. vec_len links ≤ 4 * length table.now) }
+{
     let rows = table.len();
     let most = if directed { 2 * rows } else { 4 * rows };
     let mut links = Vec::with_capacity(alloc, most)?;
     for i in 0..rows {
         push_links_of(&mut links, table.row(i), directed)?;
     }
-    links.sort_unstable();
-    links.dedup();
     Ok(links)
 }
 
-/// Appends the links that the row gives.
+/// Appends the links that the row gives, each once: a self loop has the same links both ways.
 fn push_links_of(links: &mut Vec<NamedLink>, row: EdgeRow, directed: bool) -> Result<(), NoMemory>
-    ensures links { OnOk result
-        ((link : LinkOf ℤ) → Contains links.new.items link ↔ (Contains links.old.items link ⊎ IsLinkOfRow directed row link)) }
+    ensures items { OnOk result (links.new.items ≡ links.old.items ++ links_of_row directed row) }
     ensures few { OnOk result (vec_len links.new ≤ vec_len links.old + 4) }
 {
-    push(links, link_of_sense(row, Direction::Forward, row.cost))?;
-    push(
-        links,
-        link_of_sense(row, Direction::Backward, row.reverse_cost),
-    )?;
-    if !directed {
-        push(links, link_of_sense(row, Direction::Backward, row.cost))?;
-        push(
-            links,
-            link_of_sense(row, Direction::Forward, row.reverse_cost),
-        )?;
+    if row.source == row.target {
+        return push_links_along(links, row, Direction::Forward);
     }
-    Ok(())
+    if directed {
+        push(links, link_of_sense(row, Direction::Forward, row.cost))?;
+        return push(
+            links,
+            link_of_sense(row, Direction::Backward, row.reverse_cost),
+        );
+    }
+    push_links_along(links, row, Direction::Forward)?;
+    push_links_along(links, row, Direction::Backward)
+}
+
+/// Appends the links along the row with each of its costs, equal costs once.
+fn push_links_along(
+    links: &mut Vec<NamedLink>,
+    row: EdgeRow,
+    direction: Direction,
+) -> Result<(), NoMemory>
+    ensures items { OnOk result (links.new.items ≡ links.old.items ++ links_along row direction) }
+    ensures few { OnOk result (vec_len links.new ≤ vec_len links.old + 2) }
+{
+    push(links, link_of_sense(row, direction, row.cost))?;
+    if row.cost == row.reverse_cost {
+        return Ok(());
+    }
+    push(links, link_of_sense(row, direction, row.reverse_cost))
 }
 
 /// The link along the row with the cost, or none where the cost is negative.
@@ -137,6 +170,39 @@ mod tests {
             link(20, 1, 7, 10),
             link(20, 3, 5, 10),
             link(30, 2, 4, 30),
+        ];
+        assert_eq!(rt; both_ways.as_slice(), expected.as_slice());
+        Ok(())
+    }
+
+    #[test]
+    fn links_by_row_stand_in_the_order_of_the_table_and_equal_costs_give_one_each_way(
+        rt: HostRuntime,
+    ) -> Result<(), Fail> {
+        let bytes =
+            b"id,source,target,cost,reverse_cost\n9,60,50,6,6\n2,30,30,4,4\n1,20,10,0,7\n3,10,20,5,-1\n";
+        let table = read_edges(rt.alloc(), bytes, false)?;
+        let one_way = links_by_row(rt.alloc(), &table, true)?;
+        let expected = [
+            link(60, 9, 6, 50),
+            link(50, 9, 6, 60),
+            link(30, 2, 4, 30),
+            link(20, 1, 0, 10),
+            link(10, 1, 7, 20),
+            link(10, 3, 5, 20),
+        ];
+        assert_eq!(rt; one_way.as_slice(), expected.as_slice());
+        let both_ways = links_by_row(rt.alloc(), &table, false)?;
+        let expected = [
+            link(60, 9, 6, 50),
+            link(50, 9, 6, 60),
+            link(30, 2, 4, 30),
+            link(20, 1, 0, 10),
+            link(20, 1, 7, 10),
+            link(10, 1, 0, 20),
+            link(10, 1, 7, 20),
+            link(10, 3, 5, 20),
+            link(20, 3, 5, 10),
         ];
         assert_eq!(rt; both_ways.as_slice(), expected.as_slice());
         Ok(())

@@ -77,21 +77,21 @@ row-at_place [] i entry h = cc h
 row-at_place {Row} (first ∷ entries) zero entry h = let same : first ≡ entry = cc h in ap (λ (e : ℤ × Row). Some e.1) same
 row-at_place (first ∷ entries) (suc i) entry h = row-at_place entries i entry h
 
--- what `find` says of the first place with the id
-pub find-found : {Row : Type 0} (key : Row → ℤ) (id : ℤ) (entries : List (ℤ × Row)) (result : Option ℕ) → AreUnderIds key entries
-    → result ≡ position (int_eq id) (keys_of entries) → IfSome result (λ i. option_map key (slice_get (rows_in entries) i) ≡ Some id)
-find-found key id entries None under at = tt
-find-found key id entries (Some i) under at =
-    let found = position-Some (int_eq id) (map key (rows_in entries)) i (pos 0) (ap (position (int_eq id)) (sym under) ∙ sym at) in
-    id_at-place key id (rows_in entries) i found.0 found.1
+-- what `find` says of the first place with the id, where the keys are the ids of rows
+pub find-found : {Row : Type 0} (key : Row → ℤ) (id : ℤ) (keys : List ℤ) (rows : List Row) (result : Option ℕ) → keys ≡ map key rows
+    → result ≡ position (int_eq id) keys → IfSome result (λ i. option_map key (slice_get rows i) ≡ Some id)
+find-found key id keys rows None under at = tt
+find-found key id keys rows (Some i) under at =
+    let found = position-Some (int_eq id) (map key rows) i (pos 0) (ap (position (int_eq id)) (sym under) ∙ sym at) in
+    id_at-place key id rows i found.0 found.1
 
-pub find-absent : {Row : Type 0} (key : Row → ℤ) (id : ℤ) (entries : List (ℤ × Row)) (result : Option ℕ) → AreUnderIds key entries
-    → is_some result ≡ is_some (lookup (int_eq id) entries) → IsNone result ↔ All (λ row. key row ≢ id) (rows_in entries)
-find-absent {Row} key id entries result under some = by result (some ∙ lookup-keys id entries ∙ ap (list_any (int_eq id)) under)
+pub find-absent : {Row Kept : Type 0} (key : Row → ℤ) (id : ℤ) (entries : List (ℤ × Kept)) (rows : List Row) (result : Option ℕ) → keys_of entries ≡ map key rows
+    → is_some result ≡ is_some (lookup (int_eq id) entries) → IsNone result ↔ All (λ row. key row ≢ id) rows
+find-absent {Row} key id entries rows result under some = by result (some ∙ lookup-keys id entries ∙ ap (list_any (int_eq id)) under)
   where
-    by : (r : Option ℕ) → is_some r ≡ list_any (int_eq id) (map key (rows_in entries)) → IsNone r ↔ All (λ row. key row ≢ id) (rows_in entries)
-    by None e = (λ none. all-ids key id (rows_in entries) (absent-all id (map key (rows_in entries)) (sym e)), λ others. refl)
-    by (Some i) e = (λ none. cc none, λ others. cc (e ∙ all-absent id (map key (rows_in entries)) (ids-all key id (rows_in entries) others)))
+    by : (r : Option ℕ) → is_some r ≡ list_any (int_eq id) (map key rows) → IsNone r ↔ All (λ row. key row ≢ id) rows
+    by None e = (λ none. all-ids key id rows (absent-all id (map key rows) (sym e)), λ others. refl)
+    by (Some i) e = (λ none. cc none, λ others. cc (e ∙ all-absent id (map key rows) (ids-all key id rows others)))
 
 -- some row has the id, where it is among the ids
 list_any-ids : {Row : Type 0} (key : Row → ℤ) (id : ℤ) (rows : List Row) → list_any (int_eq id) (map key rows) ≡ list_any (λ row. int_eq id (key row)) rows
@@ -99,9 +99,13 @@ list_any-ids key id [] = refl
 list_any-ids key id (row ∷ rows) = rw (list_any-ids key id rows) refl
 
 -- a look-up finds an id exactly where some row has it
+pub has_id-kept : {Row Kept : Type 0} (key : Row → ℤ) (id : ℤ) (entries : List (ℤ × Kept)) (rows : List Row) → keys_of entries ≡ map key rows
+    → is_some (lookup (int_eq id) entries) ≡ list_any (λ row. int_eq id (key row)) rows
+has_id-kept key id entries rows under = lookup-keys id entries ∙ ap (list_any (int_eq id)) under ∙ list_any-ids key id rows
+
 pub has_id-lookup : {Row : Type 0} (key : Row → ℤ) (id : ℤ) (entries : List (ℤ × Row)) → AreUnderIds key entries
     → is_some (lookup (int_eq id) entries) ≡ list_any (λ row. int_eq id (key row)) (rows_in entries)
-has_id-lookup key id entries under = lookup-keys id entries ∙ ap (list_any (int_eq id)) under ∙ list_any-ids key id (rows_in entries)
+has_id-lookup key id entries under = has_id-kept key id entries (rows_in entries) under
 
 -- how the rows of a kind are kept: each has values, and its id is the one among them
 pub record AreValues {Row : Type 0} (kind : List Rule) (values : Row → List FieldValue) (key : Row → ℤ) : Type 0 where
@@ -146,6 +150,16 @@ pub distinct-push : {Row : Type 0} (key : Row → ℤ) (rows : List Row) (row : 
 distinct-push key rows row new once = rw (map-append key rows (row ∷ [])) (IsWithoutRepeats-push (map key rows) (key row) once
     (absent-all (key row) (map key rows) (list_any-ids key (key row) rows ∙ new)))
 
+-- an entry with a new id goes last
+pub insert_entry-last : {Row Kept S : Type 0} (key : Row → ℤ) (kept : IndexMap ℤ Kept S) (rows : List Row) → keys_of kept.entries ≡ map key rows → (id : ℤ) (value : Kept)
+    → list_any (λ one. int_eq id (key one)) rows ≡ false → insert_entry int_eq kept.entries id value ≡ kept.entries ++ (id, value) ∷ []
+insert_entry-last {Row} {Kept} key kept rows under id value first =
+    insert_entry-new int_eq kept id value (none_from (lookup (int_eq id) kept.entries) (has_id-kept key id kept.entries rows under ∙ first))
+  where
+    none_from : (o : Option Kept) → is_some o ≡ false → o ≡ None
+    none_from None h = refl
+    none_from (Some found) h = cc h
+
 -- what one more row with a new id makes of the entries
 pub record IsAdded {Row : Type 0} (key : Row → ℤ) (entries new : List (ℤ × Row)) (row : Row) : Type 0 where
   pub rows : rows_in new ≡ rows_in entries ++ row ∷ []
@@ -155,8 +169,7 @@ pub insert_entry-added : {Row S : Type 0} (key : Row → ℤ) (kept : IndexMap �
     → list_any (λ one. int_eq (key row) (key one)) (rows_in kept.entries) ≡ false → new ≡ insert_entry int_eq kept.entries (key row) row
     → IsAdded key kept.entries new row
 insert_entry-added {Row} key kept under row new first is =
-    let nowhere = has_id-lookup key (key row) kept.entries under ∙ first in
-    let pushed = is ∙ insert_entry-new int_eq kept (key row) row (none_from (lookup (int_eq (key row)) kept.entries) nowhere) in
+    let pushed = is ∙ insert_entry-last key kept (rows_in kept.entries) under (key row) row first in
     let rows = ap rows_in pushed ∙ map-append (λ (e : ℤ × Row). e.1) kept.entries ((key row, row) ∷ []) in
     let ids = map-append key (rows_in kept.entries) (row ∷ []) in
     let keys = ap keys_of pushed ∙ map-append (λ (e : ℤ × Row). e.0) kept.entries ((key row, row) ∷ []) in
@@ -164,10 +177,6 @@ insert_entry-added {Row} key kept under row new first is =
       rows = rows;
       under = keys ∙ ap (λ (ks : List ℤ). ks ++ key row ∷ []) under ∙ sym (ap (map key) rows ∙ ids);
     }
-  where
-    none_from : (o : Option Row) → is_some o ≡ false → o ≡ None
-    none_from None h = refl
-    none_from (Some found) h = cc h
 
 -- the values of rows with one more
 pub values-push : {Row : Type 0} (values : Row → List FieldValue) (old new : List Row) (row : Row) (vs : List FieldValue) → new ≡ old ++ row ∷ [] → values row ≡ vs

@@ -8,6 +8,7 @@ mod FieldValues
 mod HeaderFacts
 mod JudgingLaws
 mod Keyed
+mod KeptEdges
 mod ReadOn
 mod RecordFacts
 mod Verdicts

@@ -11,4 +11,5 @@ pub mod Restrictions
 pub mod Pairs
 pub mod Totals
 pub mod Kept
+pub mod KeptEdges
 pub mod RecordsLeft

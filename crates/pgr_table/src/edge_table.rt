@@ -1,9 +1,9 @@
-ghost use Rattle.std.specs.Prelude.{◌≡◌, ◌≢◌, ◌<◌, ◌≤◌, ◌↔◌, true, false, [], ◌∷◌, ◌++◌, All, length, IsTrue, IsNone, IfOk, IfSome, OnOk, OnErr, Some, option_map, slice_get};
+ghost use Rattle.std.specs.Prelude.{◌≡◌, ◌≢◌, ◌<◌, ◌≤◌, ◌↔◌, true, false, [], ◌∷◌, ◌++◌, All, length, IsTrue, IsNone, IfOk, IfSome, OnOk, OnErr, Some, None, option_map, slice_get};
 ghost use Rattle.std.specs.List.{list_any};
 ghost use Rattle.std.specs.Ordering.{int_eq};
 ghost use Rattle.pgr_table.specs.Judging.{IsVerdict};
-ghost use Rattle.pgr_table.specs.Edges.{edge_kind, placed_edge_kind, edge_of, edge_with, place_behind, judged_edges, sum_of_costs, HasIds, IsPlace, HasPlaces};
-ghost use Rattle.pgr_table.specs.Kept.{IsRow};
+ghost use Rattle.pgr_table.specs.Edges.{place_behind, judged_edges, sum_of_costs, HasIds, IsPlace, HasPlaces};
+ghost use Rattle.pgr_table.specs.KeptEdges.{plain_edge_of, edge_row};
 ghost use Rattle.pgr_table.specs.Rows.{most_rows, greatest};
 
 use crate::column::Column;
@@ -111,26 +111,58 @@ const PLACED_EDGES: [Rule; 9] = [
     },
 ];
 
+/// What is kept of an edge under its id: its ends and its costs, without its place.
+#[derive(Clone, Copy, Debug)]
+struct PlainEdge {
+    /// The vertex where the edge begins.
+    source: i64,
+    /// The vertex where the edge ends.
+    target: i64,
+    /// The cost of the link from source to target, where it isn't negative.
+    cost: i64,
+    /// The cost of the link from target to source, where it isn't negative.
+    reverse_cost: i64,
+}
+
+impl PlainEdge {
+    /// The row of the edge with this id, and with a place if there is one.
+    fn row(&self, id: i64, place: Option<Place>) -> EdgeRow
+        ensures { result ≡ edge_row id self.now place }
+    {
+        EdgeRow {
+            id,
+            source: self.source,
+            target: self.target,
+            cost: self.cost,
+            reverse_cost: self.reverse_cost,
+            place,
+        }
+    }
+}
+
 /// The rows of an edge table that is accepted, in the order of the table, which contracts see as their list.
 ///
 /// No id stands twice, ids and vertices are from 0 to 2^63 - 1, coordinates are from -10^15 to 10^15, there are at most
 /// 4,194,304 rows, and the costs that aren't negative, of both columns, have a sum of at most 2^63 - 1.
 #[derive(Debug, Drop)]
 pub struct EdgeTable {
-    edges: IndexMap<i64, EdgeRow>,
+    /// The edges under their ids, in the order of the rows.
+    edges: IndexMap<i64, PlainEdge>,
+    /// The places of the rows in their order, if the table is read with places, else none.
+    places: Vec<Place>,
 }
 
 impl Model for EdgeTable {
-    ghost use Rattle.std.specs.Prelude.{List};
+    ghost use Rattle.std.specs.Prelude.{List, ◌≤◌, length};
     ghost use Rattle.pgr_table.specs.declared.row.EdgeRow.{EdgeRow as Row};
     ghost use Rattle.pgr_table.specs.Edges.{AreAccepted};
-    ghost use Rattle.pgr_table.specs.Kept.{rows_in, AreUnderIds};
+    ghost use Rattle.pgr_table.specs.KeptEdges.{edge_rows};
 
     ghost Value = { List Row };
 
-    ghost view = { λ table. rows_in table.edges.entries };
+    ghost view = { λ table. edge_rows table.edges.entries table.places.items };
 
-    ghost invariant = { λ table. AreUnderIds (λ row. row.id) table.edges.entries × AreAccepted (rows_in table.edges.entries) };
+    ghost invariant = { λ table. (length table.places.items ≤ length table.edges.entries) × AreAccepted (edge_rows table.edges.entries table.places.items) };
 }
 
 /// The edges that the bytes are, or why they are none.
@@ -187,6 +219,7 @@ impl EdgeTable {
     {
         EdgeTable {
             edges: IndexMap::new(alloc),
+            places: Vec::new(alloc),
         }
     }
 
@@ -212,7 +245,8 @@ impl EdgeTable {
         requires { i < length self.now }
         ensures { slice_get self.now i ≡ Some result }
     {
-        *self.edges.get_index(i).unwrap().1
+        let (id, edge) = self.edges.get_index(i).unwrap();
+        edge.row(*id, self.places.get(i).copied())
     }
 
     /// The place of the row with an id, or none where no row has it.
@@ -230,18 +264,38 @@ impl EdgeTable {
         self.edges.contains_key(&id)
     }
 
-    /// Puts a row behind the others. Out of memory, the table stays as it was.
-    fn push(&mut self, row: EdgeRow) -> Result<(), NoMemory>
-        requires ids { HasIds row }
-        requires place { IfSome row.place IsPlace }
-        requires new { list_any (λ one. int_eq row.id one.id) self.old ≡ false }
+    /// Puts a row without a place behind the others. Out of memory, the table stays as it was.
+    fn push(&mut self, id: i64, edge: PlainEdge) -> Result<(), NoMemory>
+        requires ids { HasIds (edge_row id edge None) }
+        requires new { list_any (λ one. int_eq id one.id) self.old ≡ false }
         requires few { length self.old < most_rows }
-        requires sum { sum_of_costs (self.old ++ row ∷ []) ≤ greatest }
-        ensures ok { OnOk result (self.new ≡ self.old ++ row ∷ []) }
+        requires sum { sum_of_costs (self.old ++ edge_row id edge None ∷ []) ≤ greatest }
+        ensures ok { OnOk result (self.new ≡ self.old ++ edge_row id edge None ∷ []) }
         ensures err { OnErr result (self.new ≡ self.old) }
     {
-        self.edges.insert(row.id, row)?;
+        self.edges.insert(id, edge)?;
         Ok(())
+    }
+
+    /// Puts a row with a place behind the others, each of which has one. Out of memory, the table stays as it was.
+    fn push_placed(&mut self, id: i64, edge: PlainEdge, place: Place) -> Result<(), NoMemory>
+        requires ids { HasIds (edge_row id edge (Some place)) }
+        requires place { IsPlace place }
+        requires placed { HasPlaces self.old }
+        requires new { list_any (λ one. int_eq id one.id) self.old ≡ false }
+        requires few { length self.old < most_rows }
+        requires sum { sum_of_costs (self.old ++ edge_row id edge (Some place) ∷ []) ≤ greatest }
+        ensures ok { OnOk result (self.new ≡ self.old ++ edge_row id edge (Some place) ∷ []) }
+        ensures err { OnErr result (self.new ≡ self.old) }
+    {
+        self.places.push(place)?;
+        match self.edges.insert(id, edge) {
+            Ok(_) => Ok(()),
+            Err(_) => {
+                self.places.pop();
+                Err(NoMemory)
+            }
+        }
     }
 }
 
@@ -275,7 +329,8 @@ impl Growing for EdgeTable {
 
     fn with_room(alloc: Global, expected: usize) -> Result<EdgeTable, NoMemory> {
         let edges = IndexMap::with_capacity(alloc, expected)?;
-        Ok(EdgeTable { edges })
+        let places = Vec::new(alloc);
+        Ok(EdgeTable { edges, places })
     }
 
     fn count(&self) -> usize {
@@ -287,7 +342,8 @@ impl Growing for EdgeTable {
     }
 
     fn add(&mut self, values: &mut Vec<FieldValue>) -> Result<(), NoMemory> {
-        self.push(edge(values.as_slice()))
+        let values = values.as_slice();
+        self.push(number_in(values, 0), plain_edge(values))
     }
 }
 
@@ -322,7 +378,9 @@ impl Growing for PlacedEdges {
     }
 
     fn with_room(alloc: Global, expected: usize) -> Result<PlacedEdges, NoMemory> {
-        let table = EdgeTable::with_room(alloc, expected)?;
+        let edges = IndexMap::with_capacity(alloc, expected)?;
+        let places = Vec::with_capacity(alloc, expected)?;
+        let table = EdgeTable { edges, places };
         Ok(PlacedEdges { table })
     }
 
@@ -335,39 +393,23 @@ impl Growing for PlacedEdges {
     }
 
     fn add(&mut self, values: &mut Vec<FieldValue>) -> Result<(), NoMemory> {
-        self.table.push(placed_edge(values.as_slice()))?;
+        let values = values.as_slice();
+        self.table
+            .push_placed(number_in(values, 0), plain_edge(values), place(values))?;
         Ok(())
     }
 }
 
-/// The edge with these values, without a place.
-fn edge(values: &[FieldValue]) -> EdgeRow
-    requires { IsRow edge_kind values.now }
-    ensures { result ≡ edge_of values.now }
-{
-    edge_at(values, None)
-}
-
-/// The edge with these values, and the place that the last four are.
-fn placed_edge(values: &[FieldValue]) -> EdgeRow
-    requires { IsRow placed_edge_kind values.now }
-    ensures { result ≡ edge_of values.now }
-{
-    edge_at(values, Some(place(values)))
-}
-
-/// The edge that the first five values make, with this place.
-fn edge_at(values: &[FieldValue], place: Option<Place>) -> EdgeRow
+/// What is kept of the edge with these values under its id.
+fn plain_edge(values: &[FieldValue]) -> PlainEdge
     requires { 5 ≤ length values.now }
-    ensures { result ≡ edge_with values.now place }
+    ensures { result ≡ plain_edge_of values.now }
 {
-    EdgeRow {
-        id: number_in(values, 0),
+    PlainEdge {
         source: number_in(values, 1),
         target: number_in(values, 2),
         cost: number_in(values, 3),
         reverse_cost: number_in(values, 4),
-        place,
     }
 }
 

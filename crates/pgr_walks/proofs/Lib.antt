@@ -1,6 +1,8 @@
 pub mod Shows
 pub mod Rising
 pub mod PartPlaces
+pub mod Chained
+pub mod VertexRuns
 pub mod Repeats
 pub mod Membership
 pub mod LabelOrder

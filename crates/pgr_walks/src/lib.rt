@@ -10,17 +10,20 @@
 #![tactic(auto)]
 
 mod adjacency;
-mod arrival;
+mod chains;
+mod distributing;
 mod ends;
 mod graph;
 mod label;
 mod laws;
 mod link;
 mod list_graph;
+mod packed_link;
 mod parts;
 mod reversed;
 mod row_graph;
 mod showing;
+mod side;
 #[cfg(test)]
 mod tests;
 mod visitor;

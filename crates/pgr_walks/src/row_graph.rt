@@ -1,67 +1,69 @@
 ghost use Rattle.std.specs.Prelude.{◌≡◌, ◌≤◌, ◌<◌, ◌↔◌, ℕ, All, Contains, IfOk, map};
 ghost use Rattle.std.specs.Ordering.{nat_cmp};
 ghost use Rattle.pgr_walks.specs.declared.link.LinkOf.{LinkOf};
-ghost use Rattle.pgr_walks.specs.declared.arrival.Arrival.{Arrival};
+ghost use Rattle.pgr_walks.specs.declared.packed_link.PackedLink.{PackedLink};
 ghost use Rattle.pgr_walks.specs.Link.{link_cmp};
 ghost use Rattle.pgr_walks.specs.Walk.{IsWithoutRepeats};
 ghost use Rattle.pgr_walks.specs.Visit.{shown, Admits};
 ghost use Rattle.pgr_walks.specs.Graph.{IsStrictlyRising};
 ghost use Rattle.pgr_walks.specs.LinksOf.{LinksOf};
 ghost use Rattle.pgr_walks.specs.ListGraph.{links_from, links_into, arrival_cmp, HasEndsBelow, HoldTheSame};
-ghost use Rattle.pgr_walks.specs.Arrival.{link_of};
+ghost use Rattle.pgr_walks.specs.Packed.{link_of};
 ghost use Rattle.pgr_walks.specs.Parts.{AreBeginnings};
 
-use crate::arrival::{Arrival, arrivals_of};
+use crate::distributing::distribute;
 use crate::graph::Graph;
 use crate::link::Link;
-use crate::parts::{beginnings, part};
-use crate::showing::show;
+use crate::packed_link::{PackedLink, pack};
+use crate::parts::{Parts, part};
+use crate::side::{ByEnd, ByStart};
 use crate::visitor::{LinkVisitor, Next};
 use pgr_outside::NoMemory;
 use std::alloc::Global;
 
 /// A graph that finds the links of a vertex at once.
 ///
-/// It keeps the links by where they begin and, in less memory, by where they lead, and for each vertex the
-/// place where its part begins in either list.
+/// It keeps the links by where they begin and by where they lead, in less memory than as links, and for each
+/// vertex the place where its part begins in either list.
 #[derive(Debug, Drop)]
 pub struct RowGraph {
     size: u32,
-    by_start: Vec<Link>,
+    by_start: Vec<PackedLink>,
     starts: Vec<usize>,
-    by_end: Vec<Arrival>,
+    by_end: Vec<PackedLink>,
     ends: Vec<usize>,
-    ghost ends_below: { All (HasEndsBelow size) by_start.items },
-    ghost starts_rise: { IsStrictlyRising (link_cmp nat_cmp) by_start.items },
+    ghost ends_below: { All (HasEndsBelow size) (map link_of by_start.items) },
+    ghost starts_rise: { IsStrictlyRising (link_cmp nat_cmp) (map link_of by_start.items) },
     ghost ends_rise: { IsStrictlyRising arrival_cmp (map link_of by_end.items) },
-    ghost same: { HoldTheSame by_start.items (map link_of by_end.items) },
-    ghost start_parts: { AreBeginnings (λ (link : LinkOf ℕ). link.from) size by_start.items starts.items },
-    ghost end_parts: { AreBeginnings (λ (arrival : Arrival). arrival.to) size by_end.items ends.items },
+    ghost same: { HoldTheSame (map link_of by_start.items) (map link_of by_end.items) },
+    ghost start_parts: { AreBeginnings (λ (link : PackedLink). link.from) size by_start.items starts.items },
+    ghost end_parts: { AreBeginnings (λ (link : PackedLink). link.to) size by_end.items ends.items },
 }
 
 impl RowGraph {
     /// The graph with `size` vertices and exactly these links, which may stand in any order.
     ///
     /// Every end is below the size, and no link stands twice in the list: parallel links of one edge between
-    /// the same ends differ in cost. `NoMemory` may come at any call. Work, not proved: two sorts, the first of
-    /// which is quick where the links stand by where they begin, and two passes.
+    /// the same ends differ in cost. `NoMemory` may come at any call. Work, not proved: for either list two passes
+    /// over the links, and a sort of the links of each vertex.
     pub fn from_links(alloc: Global, size: u32, links: Vec<Link>) -> Result<RowGraph, NoMemory>
         requires ends { All (HasEndsBelow size) links.items }
         requires once { IsWithoutRepeats links.items }
         ensures size { IfOk result (λ graph. ⟦<RowGraph as Graph>⟧.count graph ≡ size) }
         ensures links { IfOk result (λ graph. (link : LinkOf ℕ) → LinksOf ⟦<RowGraph as Graph>⟧ graph link ↔ Contains links.items link) }
     {
-        let mut by_end = arrivals_of(alloc, &links)?;
-        by_end.sort_unstable_by_key(|arrival| (
-            arrival.to,
-            arrival.edge,
-            arrival.cost,
-            arrival.from,
-        ));
-        let mut by_start = links;
-        by_start.sort_unstable();
-        let starts = beginnings(alloc, size, &by_start)?;
-        let ends = beginnings(alloc, size, &by_end)?;
+        let packed = pack(alloc, &links)?;
+        drop(links);
+        let from_start = distribute::<ByStart>(alloc, size, &packed)?;
+        drop(packed);
+        let Parts {
+            links: by_start,
+            places: starts,
+        } = from_start;
+        let Parts {
+            links: by_end,
+            places: ends,
+        } = distribute::<ByEnd>(alloc, size, &by_start)?;
         Ok(RowGraph {
             size,
             by_start,
@@ -75,7 +77,7 @@ impl RowGraph {
 impl Graph for RowGraph {
     ghost count = { λ graph. graph.size };
 
-    ghost outs = { λ graph v. links_from graph.by_start.items v };
+    ghost outs = { λ graph v. links_from (map link_of graph.by_start.items) v };
 
     ghost ins = { λ graph v. links_into (map link_of graph.by_end.items) v };
 
@@ -84,25 +86,25 @@ impl Graph for RowGraph {
     }
 
     fn each_out<V: LinkVisitor>(&self, v: u32, visitor: &mut V) {
-        show(part(&self.by_start, &self.starts, v), visitor);
+        show_packed(part::<ByStart>(&self.by_start, &self.starts, v), visitor);
     }
 
     fn each_in<V: LinkVisitor>(&self, v: u32, visitor: &mut V) {
-        show_arrivals(part(&self.by_end, &self.ends, v), visitor);
+        show_packed(part::<ByEnd>(&self.by_end, &self.ends, v), visitor);
     }
 
     ghost use Rattle.pgr_walks.specs.ListGraphLaws.{list_lawful};
 
-    ghost lawful = { λ graph. list_lawful graph.size graph.by_start.items (map link_of graph.by_end.items) graph.ends_below graph.starts_rise graph.ends_rise graph.same };
+    ghost lawful = { λ graph. list_lawful graph.size (map link_of graph.by_start.items) (map link_of graph.by_end.items) graph.ends_below graph.starts_rise graph.ends_rise graph.same };
 }
 
 /// Shows the visitor the links that are kept, in order, up to and with the first at which it answers stop.
-fn show_arrivals<V: LinkVisitor>(arrivals: &[Arrival], visitor: &mut V)
-    requires { Admits V.after V.answer V.ready (V.meaning visitor.old) (map link_of arrivals.now) }
-    ensures { V.meaning visitor.new ≡ shown V.after V.answer (V.meaning visitor.old) (map link_of arrivals.now) }
+fn show_packed<V: LinkVisitor>(links: &[PackedLink], visitor: &mut V)
+    requires { Admits V.after V.answer V.ready (V.meaning visitor.old) (map link_of links.now) }
+    ensures { V.meaning visitor.new ≡ shown V.after V.answer (V.meaning visitor.old) (map link_of links.now) }
 {
-    for arrival in arrivals {
-        match visitor.see(arrival.link()) {
+    for packed in links {
+        match visitor.see(packed.link()) {
             Next::Go => {}
             Next::Stop => return,
         }

@@ -1,7 +1,6 @@
 -- Two options are one where they are called the same, and that carries over.
-use Rattle.std.proofs.Common.{◌≡◌, ℕ, Bool, true, false, ◌||◌, List, [], ◌∷◌, refl, ◌∙◌, Decides}
+use Rattle.std.proofs.Common.{◌≡◌, Bool, true, false, ◌||◌, List, [], ◌∷◌, refl, ◌∙◌, Decides}
 use Rattle.std.proofs.lemmas.Slice.Eq.{bytes_eq-Decides}
-use Rattle.std.specs.Str.{bytes_eq}
 use Rattle.pgr_words.specs.declared.option.OptionName.{OptionName}
 use Rattle.pgr_words.specs.Options.{name_of, is_same}
 use Rattle.pgr_words.specs.Functions.{is_among}
@@ -34,11 +33,3 @@ is_among-along (first ∷ options) option other same among = by (is_same first o
         → (is_same first other || is_among options other) ≡ true
     by true here among later = rw (is_same-along first option other same here) refl
     by false here among later = or_later (is_same first other) (later among)
-
--- texts that differ aren't told to be equal
-pub differs : (name text : List ℕ) → ¬ (name ≡ text) → bytes_eq name text ≡ false
-differs name text apart = by (bytes_eq name text) (bytes_eq-Decides name text).0
-  where
-    by : (b : Bool) → (b ≡ true → name ≡ text) → b ≡ false
-    by true same = absurd (apart (same refl))
-    by false same = refl

@@ -3,6 +3,7 @@ use Rattle.std.specs.Prelude.{ℕ, Bool, List, [], ◌∷◌, Option, codes, fin
 use Rattle.std.specs.List.{list_any}
 use Rattle.std.specs.Map.{lookup}
 use Rattle.std.specs.Str.{bytes_eq}
+use Rattle.pgr_words.specs.declared.function.Called.{Called}
 use Rattle.pgr_words.specs.declared.function.Function.{Function}
 use Rattle.pgr_words.specs.declared.function.Function.TheVariants as function
 use Rattle.pgr_words.specs.declared.option.OptionName.{OptionName}
@@ -70,6 +71,10 @@ functions =
     ∷ (codes "pgr_edmondsKarp", (function.EdmondsKarp, flow_options))
     ∷ (codes "minCut", (function.MinCut, flow_options))
     ∷ []
+
+-- what a row of the table in the code says, as a row of this one
+abbrev pub row_of : Called → List ℕ × (Function × List OptionName)
+row_of called = (called.name.now, (called.function, called.options.now))
 
 -- the function that is called so, and its options
 abbrev pub function_named : List ℕ → Option (Function × List OptionName)

@@ -1,5 +1,7 @@
-ghost use Rattle.std.specs.Prelude.{◌≡◌, option_map};
-ghost use Rattle.pgr_words.specs.Functions.{function_named};
+ghost use Rattle.std.specs.Prelude.{◌≡◌, find, map, option_map};
+ghost use Rattle.std.specs.Map.{lookup};
+ghost use Rattle.std.specs.Str.{bytes_eq};
+ghost use Rattle.pgr_words.specs.Functions.{function_named, row_of};
 
 use crate::option::OptionName;
 
@@ -121,30 +123,123 @@ const GUIDED_OPTIONS: [OptionName; 7] = [
     OptionName::Factor,
 ];
 
+/// A function by what it is called, with its options.
+#[derive(Clone, Copy)]
+struct Called {
+    name: &'static str,
+    function: Function,
+    options: &'static [OptionName],
+}
+
+/// Each function by what it is called, with its options.
+const FUNCTIONS: [Called; 17] = [
+    Called {
+        name: "pgr_aStar",
+        function: Function::AStar,
+        options: &GUIDED_OPTIONS,
+    },
+    Called {
+        name: "pgr_connectedComponents",
+        function: Function::ConnectedComponents,
+        options: &EDGE_OPTIONS,
+    },
+    Called {
+        name: "pgr_strongComponents",
+        function: Function::StrongComponents,
+        options: &EDGE_OPTIONS,
+    },
+    Called {
+        name: "pgr_biconnectedComponents",
+        function: Function::BiconnectedComponents,
+        options: &EDGE_OPTIONS,
+    },
+    Called {
+        name: "pgr_articulationPoints",
+        function: Function::ArticulationPoints,
+        options: &EDGE_OPTIONS,
+    },
+    Called {
+        name: "pgr_bridges",
+        function: Function::Bridges,
+        options: &EDGE_OPTIONS,
+    },
+    Called {
+        name: "pgr_dijkstra",
+        function: Function::Dijkstra,
+        options: &PAIR_OPTIONS,
+    },
+    Called {
+        name: "pgr_dijkstraCost",
+        function: Function::DijkstraCost,
+        options: &PAIR_OPTIONS,
+    },
+    Called {
+        name: "pgr_dijkstraCostMatrix",
+        function: Function::DijkstraCostMatrix,
+        options: &MATRIX_OPTIONS,
+    },
+    Called {
+        name: "pgr_drivingDistance",
+        function: Function::DrivingDistance,
+        options: &DRIVING_OPTIONS,
+    },
+    Called {
+        name: "pgr_withPoints",
+        function: Function::WithPoints,
+        options: &POINT_OPTIONS,
+    },
+    Called {
+        name: "pgr_trsp",
+        function: Function::Trsp,
+        options: &TRSP_OPTIONS,
+    },
+    Called {
+        name: "pgr_KSP",
+        function: Function::Ksp,
+        options: &KSP_OPTIONS,
+    },
+    Called {
+        name: "pgr_contraction",
+        function: Function::Contraction,
+        options: &CONTRACTION_OPTIONS,
+    },
+    Called {
+        name: "pgr_maxFlow",
+        function: Function::MaxFlow,
+        options: &FLOW_OPTIONS,
+    },
+    Called {
+        name: "pgr_edmondsKarp",
+        function: Function::EdmondsKarp,
+        options: &FLOW_OPTIONS,
+    },
+    Called {
+        name: "minCut",
+        function: Function::MinCut,
+        options: &FLOW_OPTIONS,
+    },
+];
+
 impl Function {
     /// The function that is called so, with its options, if there is one.
     pub(crate) fn named(name: &str) -> Option<(Function, &'static [OptionName])>
         ensures { option_map (λ called. (called.0, called.1.now)) result ≡ function_named name.now }
     {
-        match name {
-            "pgr_aStar" => Some((Function::AStar, &GUIDED_OPTIONS)),
-            "pgr_connectedComponents" => Some((Function::ConnectedComponents, &EDGE_OPTIONS)),
-            "pgr_strongComponents" => Some((Function::StrongComponents, &EDGE_OPTIONS)),
-            "pgr_biconnectedComponents" => Some((Function::BiconnectedComponents, &EDGE_OPTIONS)),
-            "pgr_articulationPoints" => Some((Function::ArticulationPoints, &EDGE_OPTIONS)),
-            "pgr_bridges" => Some((Function::Bridges, &EDGE_OPTIONS)),
-            "pgr_dijkstra" => Some((Function::Dijkstra, &PAIR_OPTIONS)),
-            "pgr_dijkstraCost" => Some((Function::DijkstraCost, &PAIR_OPTIONS)),
-            "pgr_dijkstraCostMatrix" => Some((Function::DijkstraCostMatrix, &MATRIX_OPTIONS)),
-            "pgr_drivingDistance" => Some((Function::DrivingDistance, &DRIVING_OPTIONS)),
-            "pgr_withPoints" => Some((Function::WithPoints, &POINT_OPTIONS)),
-            "pgr_trsp" => Some((Function::Trsp, &TRSP_OPTIONS)),
-            "pgr_KSP" => Some((Function::Ksp, &KSP_OPTIONS)),
-            "pgr_contraction" => Some((Function::Contraction, &CONTRACTION_OPTIONS)),
-            "pgr_maxFlow" => Some((Function::MaxFlow, &FLOW_OPTIONS)),
-            "pgr_edmondsKarp" => Some((Function::EdmondsKarp, &FLOW_OPTIONS)),
-            "minCut" => Some((Function::MinCut, &FLOW_OPTIONS)),
-            _ => None,
-        }
+        called_in(&FUNCTIONS, name)
     }
+}
+
+/// The function that is called so in a table, with its options, if there is one.
+fn called_in(table: &[Called], name: &str) -> Option<(Function, &'static [OptionName])>
+    ensures { option_map (λ called. (called.0, called.1.now)) result ≡ lookup (bytes_eq name.now) (map row_of table.now) }
+{
+    let row = row_named(table, name)?;
+    Some((row.function, row.options))
+}
+
+/// The first row of a table whose function is called so, if there is one.
+fn row_named(table: &[Called], name: &str) -> Option<Called>
+    ensures { result ≡ find (λ row. bytes_eq name.now row.name.now) table.now }
+{
+    table.iter().copied().find(|row| name == row.name)
 }

@@ -1,21 +1,15 @@
-use Rattle.std.proofs.Common.{rules}
-use Rattle.std.proofs.Common.{arith}
-use Rattle.std.proofs.lemmas.List.Filters.{dedup_is}
-use Rattle.pgr_graph.proofs.TableLinks.{parts_tie, no_links, links_more, links_kept, links_rise}
+use Rattle.std.specs.Ordering.{int_cmp}
+use Rattle.std.proofs.lemmas.Cmp.{int_cmp_total}
+use Rattle.pgr_walks.specs.LinkOrders.{link_total, link_tie, int_tie}
+use Rattle.pgr_walks.proofs.Rising.{rising_from_permutation}
+use Rattle.pgr_graph.proofs.TableLinks.{links_kept}
 use Rattle.pgr_graph.proofs.links.links_of.Goals as goal
-
-pub loop-i-init : goal.loop-i-init
-loop-i-init c = (rw c.in_ok-links.ensures.items (no_links c.args.table.now c.args.directed), search rules)
-
-pub loop-i-preserved : goal.loop-i-preserved
-loop-i-preserved c =
-    (links_more c.args.table.now c.args.directed c.loop-i.i _ _ _ c.row.ensures c.loop-i.invariant.0 c.in_ok-push_links_of.ensures.links, search rules)
 
 pub returns-clause-links : goal.returns-clause-links
 returns-clause-links c =
-    links_kept _ parts_tie c.args.table.now c.args.directed c.loop-i.i _ _ _ (omega (arith, c.len-rows.ensures.len)) c.loop-i.invariant.0
-    c.sort_unstable.ensures.permutation (dedup_is _ _ _ c.dedup.ensures.filtered)
+    links_kept c.args.directed c.args.table.now _ _ c.in_ok-links.ensures.links c.sort_unstable.ensures.permutation
 
 pub returns-clause-rising : goal.returns-clause-rising
 returns-clause-rising c =
-    links_rise _ parts_tie _ _ c.sort_unstable.ensures.sorted (dedup_is _ _ _ c.dedup.ensures.filtered)
+    rising_from_permutation (link_total int_cmp int_cmp_total) (link_tie int_cmp int_tie) _ _ c.in_ok-links.ensures.once c.sort_unstable.ensures.permutation
+    c.sort_unstable.ensures.sorted

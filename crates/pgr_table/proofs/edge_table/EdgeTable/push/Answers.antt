@@ -1,28 +1,26 @@
-use Rattle.std.proofs.Common.{w64, rules, ap, ◌∙◌, List, ◌++◌, ◌∷◌, []}
+use Rattle.std.proofs.Common.{w64, ap, ◌∙◌, List, ◌++◌, ◌∷◌, [], None}
 use Rattle.std.proofs.Math.Facts.{to_z-of_z}
-use mir.Val.{SFits}
 use Rattle.pgr_table.specs.declared.row.EdgeRow.{EdgeRow}
-use Rattle.pgr_table.specs.Kept.{rows_in}
-use Rattle.pgr_table.proofs.Keyed.{insert_entry-added}
+use Rattle.pgr_table.specs.KeptEdges.{edge_row, edge_rows}
+use Rattle.pgr_table.proofs.KeptEdges.{edge_rows-push}
 use Rattle.pgr_table.proofs.EdgeFacts.{AreAccepted-push}
 use Rattle.pgr_table.proofs.edge_table.EdgeTable.push.Goals as goal
 
 pub invariant_of-self-2 : goal.invariant_of-self-2
 invariant_of-self-2 c =
-    let fits : SFits w64 c.args.row.id = search rules in
-    let same = to_z-of_z {w = w64} {z = c.args.row.id} fits in
+    let same = to_z-of_z {w = w64} {z = c.args.id} c.ranges.id in
+    let kept = c.self.inside.edges in
+    let places = c.self.inside.places.items in
     let new = rw (← c.self.view_is) at c.requires.new in
-    let added = insert_entry-added (λ (row : EdgeRow). row.id) c.self.inside.edges c.self.invariant.0 c.args.row c.insert.new.self.entries new
-    (rw same at c.in_ok-insert.ensures.entries) in
+    let pushed = edge_rows-push kept places c.args.id c.args.edge c.insert.new.self.entries c.self.invariant.0 new (rw same at c.in_ok-insert.ensures.entries) in
     let few = rw (← c.self.view_is) at c.requires.few in
     let sum = rw (← c.self.view_is) at c.requires.sum in
-    (added.under, rw added.rows (AreAccepted-push (rows_in c.self.inside.edges.entries) c.args.row c.self.invariant.1 c.requires.ids c.requires.place new few sum))
+    (pushed.within, rw pushed.rows (AreAccepted-push (edge_rows kept.entries places) (edge_row c.args.id c.args.edge None) c.self.invariant.1 c.requires.ids tt new few sum))
 
 pub returns-clause-ok : goal.returns-clause-ok
 returns-clause-ok c =
-    let fits : SFits w64 c.args.row.id = search rules in
-    let same = to_z-of_z {w = w64} {z = c.args.row.id} fits in
+    let same = to_z-of_z {w = w64} {z = c.args.id} c.ranges.id in
     let new = rw (← c.self.view_is) at c.requires.new in
-    let added = insert_entry-added (λ (row : EdgeRow). row.id) c.self.inside.edges c.self.invariant.0 c.args.row c.insert.new.self.entries new
+    let pushed = edge_rows-push c.self.inside.edges c.self.inside.places.items c.args.id c.args.edge c.insert.new.self.entries c.self.invariant.0 new
     (rw same at c.in_ok-insert.ensures.entries) in
-    added.rows ∙ ap (λ (rows : List EdgeRow). rows ++ c.args.row ∷ []) c.self.view_is
+    pushed.rows ∙ ap (λ (rows : List EdgeRow). rows ++ edge_row c.args.id c.args.edge None ∷ []) c.self.view_is

@@ -1,9 +1,0 @@
-use Rattle.pgr_walks.specs.Parts.{IsBeginning}
-use Rattle.pgr_walks.proofs.PartPlaces.{ArePlacesBelow}
-use Rattle.pgr_walks.proofs.parts.beginnings.Given as goal
-
-abbrev pub invariant-loop-v : goal.invariant-loop-v
-invariant-loop-v g l = record {
-  placed : ArePlacesBelow g.T.InPart.vertex l.items l.v l.places.items;
-  here : IsBeginning g.T.InPart.vertex l.items l.v l.place;
-}

@@ -1,9 +1,0 @@
-use Rattle.std.proofs.Common.{◌+◌, ◌-◌, length}
-use Rattle.pgr_walks.proofs.PartPlaces.{HasPassed}
-use Rattle.pgr_walks.proofs.parts.end_of_part.Given as goal
-
-abbrev pub invariant-loop-place : goal.invariant-loop-place
-invariant-loop-place g l = HasPassed g.T.InPart.vertex l.items (l.v + 1) l.place
-
-abbrev pub decreases-loop-place : goal.decreases-loop-place
-decreases-loop-place g l = length l.items - l.place
