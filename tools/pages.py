@@ -1,15 +1,21 @@
-"""What the pages say of each function and option, and where it stands once.
+"""What the pages say of each function, option, input table and message, and where it stands once.
 
-The tables of words in crates/pgr_words/specs say which functions and options there are. docs/FUNCTIONS.md says in words what
-they do. From the two the parts between marks are made in share/completion/pgr.bash, man/pgr.1 and docs/FROM-PGROUTING.md.
-`write-pages` writes them, and `check-pages` compares them.
+The definitions of the program say which there are: the functions and options stand in crates/pgr_words/specs, the columns of input
+tables in crates/pgr_table/specs, and the messages there and in crates/pgr_run/specs. docs/FUNCTIONS.md says in words what they do.
+From the two the parts between marks are made in share/completion/pgr.bash, man/pgr.1 and docs/FROM-PGROUTING.md. `write-pages` writes
+them, and `check-pages` compares them.
 
 In docs/FUNCTIONS.md are read:
 - the lists of functions, each below a line `**Title.** Perhaps a sentence.`, with what each function answers;
 - the table of the forms of values: what stands in code before the first colon is how a value is shown;
 - of a function's section the table of options, or `The options are those of [other]`; the table of columns, or `The columns are
   those of [other]`, or `The one column is`; a table below the name of an option, whose values it explains; and the lines
-  `- In pgRouting: call; here: command` and `- Unlike pgRouting: what differs`.
+  `- In pgRouting: call; here: command` and `- Unlike pgRouting: what differs`;
+- of `## Input tables` each section `### The table of ..`: its paragraphs, its lists, and its tables of columns, with what holds where a
+  column is absent (`refused` where it is needed);
+- of `## Exit statuses and messages` the table of statuses, and that of messages with their status and cause.
+
+A reference to another place, as `: see [Links](#links)`, is left out where the words go to the manual page.
 """
 import os
 import re
@@ -17,6 +23,8 @@ import textwrap
 
 TOP = os.path.realpath(os.path.join(os.path.dirname(os.path.realpath(__file__)), ".."))
 WORDS = "crates/pgr_words/specs"
+TABLES = "crates/pgr_table/specs"
+RUN = "crates/pgr_run/specs"
 REFERENCE = "docs/FUNCTIONS.md"
 
 
@@ -50,8 +58,53 @@ class Words:
         return "" if need == "Never" else "needed"
 
 
+def kinds():
+    """The columns of each kind of input table of the program, in order, as `Reference.kinds` shows them."""
+    names = dict(re.findall(r'^name_of column\.(\w+) = codes "(\w+)"', read(TABLES + "/Columns.antt"), re.M))
+    modules = sorted(os.listdir(os.path.join(TOP, TABLES)))
+    bodies = [body for module in modules for body in re.findall(r"^\w+_kind =((?:.|\n )*)", read(TABLES + "/" + module), re.M)]
+    return [kind((names[column], need == "required") for need, column in re.findall(r"\b(required|optional) column\.(\w+)", body))
+            for body in bodies]
+
+
+def kind(columns):
+    """A list of columns as a text, each with whether a header has to have it."""
+    return ", ".join(name if needed else "perhaps " + name for name, needed in columns)
+
+
+def messages():
+    """The messages of the program with their statuses, where ROLE, NAME and N stand for a file, an option or a column, and a number."""
+    numbers = dict(re.findall(r"^number_of (\w+) = (\d)", read(RUN + "/Status.antt"), re.M))
+    status = dict(re.findall(r"^status_of\w* \(?\w+\.(\w+).* = status\.(\w+)", read(RUN + "/Causes.antt"), re.M))
+    return ["pgr: %s, status %s" % (text, numbers[status.get(cause, "Words")]) for cause, text in causes()]
+
+
+def causes():
+    """What is said of each cause: its variant, and the text."""
+    of_words, of_tables, of_others = read(WORDS + "/FaultText.antt"), read(TABLES + "/FaultText.antt"), read(RUN + "/Messages.antt")
+    found = re.findall(r"^fault_text \(?(?:fault\.)?(\w+).* = (.+)$", of_words, re.M)
+    found += [(cause, 'name_of role ++ codes ": " ++ ' + parts)
+              for cause, parts in re.findall(r"^fault_text \(?(\w+).* = (.+)$", of_tables, re.M)]
+    found += re.findall(r"^(?:refused_text|text_of) \(?\w+\.(\w+).* = ((?!.*fault_text|refused_text).+)$", of_others, re.M)
+    return [(cause, "".join(as_shown(part) for part in parts.split(" ++ "))) for cause, parts in found]
+
+
+def as_shown(part):
+    """A part of a text in a definition, as a page shows it."""
+    if part.startswith("codes"):
+        return part.split('"')[1]
+    if part.startswith("decimal"):
+        return "N"
+    return "ROLE" if part.endswith(" role") else "NAME"
+
+
 def rows(table):
     return [[cell.strip() for cell in line.strip("| ").split(" | ")] for line in table.splitlines()]
+
+
+def tables(text, head):
+    """The rows of each table of a text whose first column is called so."""
+    return [rows(table) for table in re.findall(r"^\| %s \|.*\n\|[-|]+\|\n((?:\|.*\n)+)" % head, text, re.M)]
 
 
 def in_code(text):
@@ -76,9 +129,9 @@ class Reference:
     def part(self, function, table, others):
         """The rows of a table of a function's section, or of that of the function to which its section refers."""
         section = self.sections.get(function, "")
-        found = re.search(r"^\| %s \|.*\n\|[-|]+\|\n((?:\|.*\n)+)" % table, section, re.M)
+        found = tables(section, table)
         if found:
-            return rows(found.group(1))
+            return found[0]
         other = re.search(others + r"\b[^.]*\b(?:is that|are those) of \[`(\w+)`\]", " ".join(section.split()))
         return self.part(other.group(1), table, others) if other and other.group(1) != function else []
 
@@ -100,11 +153,32 @@ class Reference:
 
     def explained(self, option):
         """What each value of an option means, where a section has a table of them."""
-        tables = re.findall(r"^\| `%s` \|.*\n\|[-|]+\|\n((?:\|.*\n)+)" % option, "\n".join(self.sections.values()), re.M)
-        return [(in_code(row[0])[0], row[1]) for table in tables for row in rows(table)]
+        found = tables("\n".join(self.sections.values()), "`%s`" % option)
+        return [(in_code(row[0])[0], row[1]) for table in found for row in table]
 
     def listed(self):
         return [function for _, _, listed in self.groups for function, _ in listed]
+
+    def input_tables(self):
+        """The input tables: what each is called, and its section."""
+        return re.findall(r"^### (The table of \w+)\n((?:(?!###).*\n)*)", self.sections.get("Input tables", ""), re.M)
+
+    def kinds(self):
+        """The columns of each input table, in order; where a section has a second table of columns, also those of both."""
+        for _, section in self.input_tables():
+            columns = []
+            for table in tables(section, "Column"):
+                columns += [(name, row[2] == "refused") for row in table if len(row) == 3 for name in in_code(row[0])]
+                yield kind(columns)
+
+    def statuses(self):
+        """The exit statuses of the program: number, meaning."""
+        return [row for table in tables(self.sections.get("Exit statuses and messages", ""), "Status") for row in table]
+
+    def messages(self):
+        """The messages: text, status, cause."""
+        found = tables(self.sections.get("Exit statuses and messages", ""), "Message")
+        return [(in_code(row[0])[0], row[1], row[2]) for table in found for row in table]
 
 
 def differences(what, found, wanted):
@@ -142,7 +216,15 @@ def faults(words, reference):
         defaults = {default for of in words.functions for option, default, _ in reference.options(of) if option == name}
         if len([default for default in defaults if not default.startswith("needed")]) > 1:
             lines.append("option %s has several defaults" % name)
-    return [REFERENCE + ": " + line for line in lines]
+    lines += differences("in the input tables: the list of columns", list(reference.kinds()), kinds())
+    return [REFERENCE + ": " + line for line in lines + message_faults(words, reference)]
+
+
+def message_faults(words, reference):
+    """What differs between the program's messages and the table of messages, where a row may be for one file alone."""
+    files = "|".join(name for name in words.options if words.form[name] == "file_name")
+    found = {re.sub("^pgr: (?:%s): " % files, "pgr: ROLE: ", "%s, status %s" % (text, status)) for text, status, _ in reference.messages()}
+    return differences("in the table of messages:", list(found), messages())
 
 
 def sentence(text):
@@ -151,11 +233,15 @@ def sentence(text):
 
 
 def roff(text):
-    """Words of a page as lines of a manual page."""
+    """Words of a page as lines of a manual page, without references to other places; each sentence begins a line."""
+    text = re.sub(r": see (?:below|\[[^]]*\]\([^)]*\))", "", " ".join(text.split()))
     text = re.sub(r"\[([^]]*)\]\([^)]*\)", r"\1", text).replace("\\", "\\e")
     text = re.sub(r"(?<![\w])-(?=\w)", r"\\-", text)
     text = re.sub(r"`([^`]+)`", lambda code: "\\fB%s\\fR" % code.group(1), text)
-    return [re.sub(r"^([.'])", r"\\&\1", line) for line in textwrap.wrap(text, 120, break_long_words=False, break_on_hyphens=False)]
+    text = re.sub(r"\*\*([^*]+)\*\*", lambda word: "\\fI%s\\fR" % word.group(1), text)
+    lines = [line for part in re.split(r"(?<=\.) (?=\\f|[A-Z])", text)
+             for line in textwrap.wrap(part, 120, break_long_words=False, break_on_hyphens=False)]
+    return [re.sub(r"^([.'])", r"\\&\1", line) for line in lines]
 
 
 def manual_functions(words, reference):
@@ -191,11 +277,44 @@ def meaning(reference, name):
     meanings, default = [], ""
     for function in reference.listed():
         for option, default_here, says in reference.options(function):
-            says = re.sub(r": see .*$", "", says)
             if option == name:
                 default = default_here
                 meanings += [says] if says not in meanings else []
     return default, meanings
+
+
+def manual_tables(words, reference):
+    lines = []
+    for title, section in reference.input_tables():
+        made = [line for block in re.split(r"\n\n+", section.strip("\n")) for line in manual_block(block)]
+        lines += [".SS " + title, *(made[1:] if made[:1] == [".PP"] else made)]
+    return lines
+
+
+def manual_block(block):
+    """A paragraph, a list or a table of columns of an input table's section."""
+    if block.startswith("|"):
+        return [line for row in rows(block)[2:] for line in manual_column(*row)]
+    if block.startswith("- "):
+        return [line for item in re.split(r"^- ", block, flags=re.M)[1:] for line in [".IP \\(bu 2", *roff(item)]]
+    return [".PP", *roff(block)]
+
+
+def manual_column(names, field, absent):
+    lines = [".TP", *roff(names), *roff(sentence(field))]
+    return lines if absent == "refused" else lines + roff("Where the column is absent, it is %s." % absent)
+
+
+def manual_statuses(words, reference):
+    return [line for number, says in reference.statuses() for line in [".TP", ".B " + number, *roff(sentence(says))]]
+
+
+def manual_messages(words, reference):
+    lines = []
+    for text, status, cause in reference.messages():
+        shown = re.sub(r"\b([A-Z]+)\b", r"\\fI\1\\fB", text)
+        lines += [".TP", "\\fB%s\\fR" % shown, *roff("Status %s: %s." % (status, cause))]
+    return lines
 
 
 def completion(words, reference):
@@ -236,22 +355,26 @@ def differs(words, reference):
                                       break_long_words=False, break_on_hyphens=False)]
 
 
-# the page, what it is called there, how the page's comments begin and end, and what makes its lines
+# the page, what the part is called there, how the page's comments begin and end, of what the part is made, and what makes its lines
+BOTH = REFERENCE + " and " + WORDS
 PARTS = [
-    ("share/completion/pgr.bash", "words", "# %s", completion),
-    ("man/pgr.1", "functions", '.\\" %s', manual_functions),
-    ("man/pgr.1", "options", '.\\" %s', manual_options),
-    ("docs/FROM-PGROUTING.md", "calls", "<!-- %s -->", calls),
-    ("docs/FROM-PGROUTING.md", "differences", "<!-- %s -->", differs),
+    ("share/completion/pgr.bash", "words", "# %s", BOTH, completion),
+    ("man/pgr.1", "functions", '.\\" %s', BOTH, manual_functions),
+    ("man/pgr.1", "options", '.\\" %s', BOTH, manual_options),
+    ("man/pgr.1", "input tables", '.\\" %s', REFERENCE, manual_tables),
+    ("man/pgr.1", "statuses", '.\\" %s', REFERENCE, manual_statuses),
+    ("man/pgr.1", "messages", '.\\" %s', REFERENCE, manual_messages),
+    ("docs/FROM-PGROUTING.md", "calls", "<!-- %s -->", BOTH, calls),
+    ("docs/FROM-PGROUTING.md", "differences", "<!-- %s -->", BOTH, differs),
 ]
 
 
 def pages(words, reference):
     """Each page with parts: its name, its text as it stands, and as it is to be, or none where a mark is missing."""
     texts = {}
-    for page, name, comment, make in PARTS:
+    for page, name, comment, sources, make in PARTS:
         before, after = texts.get(page, (read(page),) * 2)
-        top = comment % ("%s: written by tools/write-pages from %s and %s, don't edit by hand" % (name, REFERENCE, WORDS))
+        top = comment % ("%s: written by tools/write-pages from %s, don't edit by hand" % (name, sources))
         end = comment % ("%s: end of what tools/write-pages writes" % name)
         gap = "\n" if comment.startswith("<") else ""
         if after is not None and after.count(top + "\n") == after.count("\n" + end + "\n") == 1 and after.index(top) < after.index(end):

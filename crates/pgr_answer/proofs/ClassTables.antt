@@ -23,7 +23,7 @@ use Rattle.pgr_rows.specs.declared.rows.PartRow.{PartRow}
 use Rattle.pgr_answer.specs.declared.components.NumberedMember.{NumberedMember}
 use Rattle.pgr_rows.specs.declared.rows.Rows.TheVariants.{Parts}
 use Rattle.pgr_answer.specs.Components.{Member, member_cmp, AreMembers, part_rows, IsPartTable}
-use Rattle.pgr_answer.specs.Networks.{IsNetwork}
+use Rattle.pgr_answer.proofs.NetworkLemmas.{IsNetwork}
 use Rattle.pgr_answer.specs.Members.{numbered_cmp, member_at, AreByVertex, AreByClass, IsMemberAmong, by_ids}
 use Rattle.pgr_answer.proofs.FoundLemmas.{rises_sorted}
 use Rattle.pgr_answer.proofs.ClassesById.{AreNamed, connected_named, strong_named}

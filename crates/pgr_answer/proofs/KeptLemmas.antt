@@ -16,8 +16,9 @@ use Rattle.pgr_walks.proofs.LabelOrder.{AtMost-cost}
 use Rattle.pgr_numbers.specs.Names.{IsNumbered, id_at, named}
 use Rattle.pgr_answer.specs.declared.kept.LeastCost.{LeastCost}
 use Rattle.pgr_answer.specs.Costs.{IsLeastCost}
-use Rattle.pgr_answer.specs.Networks.{IsNetwork, IsRouteBetween}
+use Rattle.pgr_answer.specs.Networks.{IsRouteBetween}
 use Rattle.pgr_answer.specs.Paths.{IsLeastBetween}
+use Rattle.pgr_answer.proofs.NetworkLemmas.{IsNetwork}
 
 -- to lead to one target is to lead to it
 pub IsWalk-from_one : {V : Type 0} (Has : LinkOf V → Type 0) (s t : V) (walk : List (LinkOf V)) → LeadsTo Has (t ∷ []) s walk → IsWalk Has s walk t
@@ -38,6 +39,12 @@ least_to_one Has s t route is = record {
 pub found_then : {X E : Type 0} (found : Result (Option X) E) {P Q : X → Type 0} → IfOk found (λ o. IfSome o P) → ((x : X) → P x → Q x) → IfOk found (λ o. IfSome o Q)
 found_then (Ok o) holds follows = IfSome_then o holds follows
 found_then (Err e) holds follows = tt
+
+-- what follows where there is none follows where none is found
+pub none_then : {X E : Type 0} (found : Result (Option X) E) {P Q : Type 0} → IfOk found (λ o. IfNone o P) → (P → Q) → IfOk found (λ o. IfNone o Q)
+none_then (Ok None) none follows = follows none
+none_then (Ok (Some x)) none follows = tt
+none_then (Err e) none follows = tt
 
 -- each link of a walk has what each link of the set has
 All-walk : {V : Type 0} (Has P : LinkOf V → Type 0) → ((link : LinkOf V) → Has link → P link) → (s : V) (walk : List (LinkOf V)) (t : V) → IsWalk Has s walk t → All P walk

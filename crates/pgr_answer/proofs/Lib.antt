@@ -1,3 +1,4 @@
+pub mod AllLinks
 pub mod NetworkLemmas
 pub mod KeptLemmas
 pub mod PairLemmas

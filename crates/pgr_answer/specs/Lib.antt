@@ -29,6 +29,7 @@ pub mod MaxFlow
 pub mod EdmondsKarp
 pub mod MinCut
 pub mod Allowed
+pub mod NamedLinks
 pub mod Networks
 pub mod Found
 pub mod Reading

@@ -43,8 +43,8 @@ use std::alloc::Global;
 /// Returns the rows and notes that answer a well-formed command over the files of a store, or the first cause why there are
 /// none.
 ///
-/// The files that the command names are read and judged in order, each whole before the next: edges, points, restrictions,
-/// combinations; a file that two options name is read twice. Then the restrictions are judged over the costs of the links.
+/// The files that the command names are read and judged in the order of their [`Role`](crate::Role), each whole before the
+/// next; a file that two options name is read twice. Then the restrictions are judged over the costs of the links.
 /// See [`Refused`] for the causes. Rows come only where every file has a content, the known one where it is known, that is
 /// an accepted table, and these tables are accepted together; they are allowed over these tables. Notes are those of
 /// `pgr_aStar`: for each start of an asked pair whose estimate isn't consistent, by rising start, the first link that breaks

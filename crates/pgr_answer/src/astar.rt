@@ -9,12 +9,13 @@ ghost use Rattle.pgr_astar.specs.Points.{IsNamedIn};
 ghost use Rattle.pgr_answer.specs.AStar.{IsAStar, AreAStarNotes};
 ghost use Rattle.pgr_answer.specs.Notes.{BreaksEstimate};
 ghost use Rattle.pgr_answer.specs.Noting.{GainsNote};
-ghost use Rattle.pgr_answer.specs.Networks.{IsNetworkOf};
+ghost use Rattle.pgr_answer.specs.Networks.{id_links};
 
 use crate::answered::Note;
 use crate::asked_starts::asked_starts;
+use crate::edge_network::network_of;
 use crate::guided::guided_routes;
-use crate::network::{Network, network_of};
+use crate::network::Network;
 use crate::pairs::asked_pairs;
 use crate::path_rows::rows_of_routes;
 use crate::tables::Tables;
@@ -70,12 +71,11 @@ pub(crate) fn trusted_estimate<G: Graph>(
     start: u32,
     notes: &mut Vec<Note>,
 ) -> Result<Potential, NoMemory>
-    requires network { IsNetworkOf G.Graph network.now }
     requires places { HasPlaces edges.now }
     requires named { All (IsNamedIn edges.now) network.now.names }
     requires factor { IsFactor command.now.factor }
     requires start { start < length network.now.names }
-    ensures noted { OnOk result (GainsNote (Contains network.now.links.items)
+    ensures noted { OnOk result (GainsNote (Contains (id_links network.now))
         (BreaksEstimate edges.now command.now.heuristic command.now.factor) (id_at network.now.names start) notes.old.items notes.new.items) }
     ensures size { IfOk result (λ estimate. length estimate ≡ G.count network.now.graph) }
     ensures consistent { IfOk result (λ estimate. IsConsistent (LinksOf G.Graph network.now.graph) (value_at estimate)) }

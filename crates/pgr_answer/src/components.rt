@@ -3,7 +3,7 @@ ghost use Rattle.pgr_answer.specs.Components.{IsConnectedComponents, IsStrongCom
 ghost use Rattle.pgr_answer.specs.Members.{AreByVertex, AreByClass, IsMemberAmong, by_ids};
 ghost use Rattle.pgr_answer.specs.declared.components.NumberedMember.{NumberedMember as AMember};
 
-use crate::network::network_of;
+use crate::edge_network::network_of;
 use crate::tables::Tables;
 use pgr_numbers::{Names, numbers_rise_with_ids};
 use pgr_outside::{Listed, NoMemory};

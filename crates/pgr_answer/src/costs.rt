@@ -4,9 +4,9 @@ ghost use Rattle.pgr_answer.specs.CostTables.{IsCostTable};
 ghost use Rattle.pgr_answer.specs.Pairs.{IsAsked};
 
 use crate::cost_rows::rows_of_costs;
+use crate::edge_network::network_of;
 use crate::found::found_for;
 use crate::kept::LeastCost;
-use crate::network::network_of;
 use crate::pairs::asked_pairs;
 use pgr_numbers::numbers_rise_with_ids;
 use pgr_outside::{Listed, NoMemory};

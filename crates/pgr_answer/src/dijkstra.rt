@@ -1,8 +1,8 @@
 ghost use Rattle.std.specs.Prelude.{IfOk};
 ghost use Rattle.pgr_answer.specs.Dijkstra.{IsDijkstra};
 
+use crate::edge_network::network_of;
 use crate::found::found_for;
-use crate::network::network_of;
 use crate::pairs::asked_pairs;
 use crate::path_rows::rows_of_routes;
 use crate::tables::Tables;

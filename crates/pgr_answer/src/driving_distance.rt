@@ -6,16 +6,13 @@ ghost use Rattle.pgr_reach.specs.Equicost.{listed};
 ghost use Rattle.pgr_reach.specs.Within.{AreWithin};
 ghost use Rattle.pgr_answer.specs.DrivingDistance.{AreShown, IsDrivingDistance};
 ghost use Rattle.pgr_answer.specs.Gathering.{AreNumbersOf};
-ghost use Rattle.pgr_answer.specs.Networks.{IsNetworkOf};
 
-use crate::network::{Network, network_of};
+use crate::edge_network::network_of;
+use crate::network::Network;
 use crate::pairs::numbers_of;
 use crate::reach_rows::rows_of_reaches;
 use crate::tables::Tables;
-use pgr_numbers::{
-    Names, costs_and_hops_are_kept, graph_of_numbered_links_fits, numbers_rise_with_ids,
-    walks_correspond,
-};
+use pgr_numbers::{Names, costs_and_hops_are_kept, numbers_rise_with_ids, walks_correspond};
 use pgr_outside::{Listed, NoMemory};
 use pgr_reach::{Reach, equicost, within};
 use pgr_rows::Rows;
@@ -65,13 +62,11 @@ fn reaches_of<G: Graph>(
     roots: &[u32],
     distance: u64,
 ) -> Result<Vec<Reach>, NoMemory>
-    requires network { IsNetworkOf G.Graph network.now }
     requires roots { All (λ root. root < length network.now.names) roots.now }
     ensures roots { IfOk result (λ reaches. map (λ reach. reach.root) reaches.items ≡ roots.now) }
     ensures within { IfOk result (λ reaches. All
         (λ reach. AreWithin nat_cmp (LinksOf G.Graph network.now.graph) reach.root distance reach.rows.items) reaches.items) }
 {
-    graph_of_numbered_links_fits(&network.graph);
     let mut reaches = Vec::new(alloc);
     for root in roots {
         let reach = within(alloc, &network.graph, *root, distance)?;

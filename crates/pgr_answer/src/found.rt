@@ -2,14 +2,13 @@ ghost use Rattle.std.specs.Prelude.{◌≡◌, ◌≢◌, ◌<◌, ◌≤◌, []
 ghost use Rattle.pgr_outside.specs.Lists.{IsStrictlyRising};
 ghost use Rattle.pgr_search.specs.FinalLabels.{HoldsLabelsFrom};
 ghost use Rattle.pgr_walks.specs.LinksOf.{LinksOf};
-ghost use Rattle.pgr_answer.specs.Networks.{IsNetworkOf};
+ghost use Rattle.pgr_answer.specs.Networks.{id_links};
 ghost use Rattle.pgr_answer.specs.Gathering.{pair_cmp};
 ghost use Rattle.pgr_answer.specs.Finding.{found_cmp, IsPairAmong, HaveEnd, AreFound, Extends};
 
 use crate::kept::Kept;
 use crate::network::Network;
 use crate::pair::Pair;
-use pgr_numbers::graph_of_numbered_links_fits;
 use pgr_outside::NoMemory;
 use pgr_search::{Bound, Room, labels_until};
 use pgr_walks::Graph;
@@ -35,11 +34,10 @@ pub(crate) fn found_for<G: Graph, K: Kept>(
     network: &Network<G>,
     pairs: &[Pair],
 ) -> Result<Vec<Found<K>>, NoMemory>
-    requires network { IsNetworkOf G.Graph network.now }
     requires among { All (IsPairAmong (length network.now.names)) pairs.now }
     requires rise { IsStrictlyRising pair_cmp pairs.now }
-    ensures found { IfOk result (λ found. AreFound (Contains network.now.links.items)
-        (K.shows network.now.links.items network.now.names) network.now.names pairs.now found.items) }
+    ensures found { IfOk result (λ found. AreFound (Contains (id_links network.now))
+        (K.shows (id_links network.now) network.now.names) network.now.names pairs.now found.items) }
     ensures rise { IfOk result (λ found. IsStrictlyRising found_cmp found.items) }
 {
     let mut room = Room::for_size(alloc, network.graph.size())?;
@@ -78,17 +76,15 @@ fn find_group<G: Graph, K: Kept>(
     room: &mut Room,
     found: &mut Vec<Found<K>>,
 ) -> Result<(), NoMemory>
-    requires network { IsNetworkOf G.Graph network.now }
     requires some { group.now ≢ [] }
     requires one_end { HaveEnd group.now }
     requires among { All (IsPairAmong (length network.now.names)) group.now }
     requires size { length room.old ≡ G.count network.now.graph }
-    ensures found { OnOk result (Extends (Contains network.now.links.items)
-        (K.shows network.now.links.items network.now.names) network.now.names group.now found.old.items found.new.items) }
+    ensures found { OnOk result (Extends (Contains (id_links network.now))
+        (K.shows (id_links network.now) network.now.names) network.now.names group.now found.old.items found.new.items) }
     ensures size { length room.new ≡ G.count network.now.graph }
 {
     let end = group[0].end;
-    graph_of_numbered_links_fits(&network.graph);
     let starts = starts_of(alloc, group)?;
     let wanted = Bound::Wanted(starts.as_slice());
     labels_until(&network.graph, &[end], wanted, room);
@@ -120,13 +116,12 @@ fn find_pair<G: Graph, K: Kept>(
     end: u32,
     found: &mut Vec<Found<K>>,
 ) -> Result<(), NoMemory>
-    requires network { IsNetworkOf G.Graph network.now }
     requires room { HoldsLabelsFrom (G.count network.now.graph) (LinksOf G.Graph network.now.graph) (end ∷ []) room.now start }
     requires start { start < length network.now.names }
     requires end { end < length network.now.names }
     requires differ { start ≢ end }
-    ensures { OnOk result (Extends (Contains network.now.links.items)
-        (K.shows network.now.links.items network.now.names) network.now.names (record { end = end; start = start } ∷ []) found.old.items found.new.items) }
+    ensures { OnOk result (Extends (Contains (id_links network.now))
+        (K.shows (id_links network.now) network.now.names) network.now.names (record { end = end; start = start } ∷ []) found.old.items found.new.items) }
 {
     if let Some(kept) = K::of(alloc, network, room, start, end)? {
         found.push(Found { start, end, kept })?;

@@ -9,7 +9,7 @@ ghost use Rattle.pgr_astar.specs.Breaking.{value_at};
 ghost use Rattle.pgr_astar.specs.Points.{IsNamedIn};
 ghost use Rattle.pgr_answer.specs.Notes.{BreaksEstimate};
 ghost use Rattle.pgr_answer.specs.Noting.{AreNotesOf};
-ghost use Rattle.pgr_answer.specs.Networks.{IsNetworkOf, IsRouteBetween};
+ghost use Rattle.pgr_answer.specs.Networks.{id_links, IsRouteBetween};
 ghost use Rattle.pgr_answer.specs.declared.pair.Pair.{Pair as APair};
 ghost use Rattle.pgr_answer.specs.Answers.{walks_over};
 ghost use Rattle.pgr_answer.specs.Finding.{IsPairAmong, start_cmp, found_cmp, AreFound, ExtendsInOrder};
@@ -20,9 +20,7 @@ use crate::found::Found;
 use crate::network::Network;
 use crate::pair::Pair;
 use pgr_astar::{AstarRoom, Potential, astar_route};
-use pgr_numbers::{
-    graph_of_numbered_links_fits, least_walk_of_graph_is_least_by_ids, numbers_rise_with_ids,
-};
+use pgr_numbers::{least_walk_of_graph_is_least_by_ids, numbers_rise_with_ids};
 use pgr_outside::NoMemory;
 use pgr_route::Route;
 use pgr_table::EdgeTable;
@@ -44,7 +42,6 @@ pub(crate) fn guided_routes<G: Graph>(
     pairs: &[Pair],
     notes: &mut Vec<Note>,
 ) -> Result<Vec<Found<Route>>, NoMemory>
-    requires network { IsNetworkOf G.Graph network.now }
     requires places { HasPlaces edges.now }
     requires named { All (IsNamedIn edges.now) network.now.names }
     requires factor { IsFactor command.now.factor }
@@ -54,10 +51,10 @@ pub(crate) fn guided_routes<G: Graph>(
     requires by_start { IsStrictlyRising start_cmp pairs.now }
     requires started { All (λ pair. Contains starts.now pair.start) pairs.now }
     requires none { notes.old.items ≡ [] }
-    ensures notes { OnOk result (AreNotesOf (Contains network.now.links.items)
+    ensures notes { OnOk result (AreNotesOf (Contains (id_links network.now))
         (BreaksEstimate edges.now command.now.heuristic command.now.factor) network.now.names starts.now notes.new.items) }
-    ensures found { IfOk result (λ found. AreFound (Contains network.now.links.items)
-        (IsRouteBetween network.now.links.items network.now.names) network.now.names pairs.now found.items) }
+    ensures found { IfOk result (λ found. AreFound (Contains (id_links network.now))
+        (IsRouteBetween (id_links network.now) network.now.names) network.now.names pairs.now found.items) }
     ensures found_rise { IfOk result (λ found. IsStrictlyRising found_cmp found.items) }
 {
     numbers_rise_with_ids();
@@ -99,15 +96,14 @@ fn find_from<G: Graph>(
     room: &mut AstarRoom,
     found: &mut Vec<Found<Route>>,
 ) -> Result<(), NoMemory>
-    requires network { IsNetworkOf G.Graph network.now }
     requires one_start { All (λ pair. pair.start ≡ start) group.now }
     requires among { All (IsPairAmong (length network.now.names)) group.now }
     requires size { length estimate.now ≡ G.count network.now.graph }
     requires consistent { IsConsistent (LinksOf G.Graph network.now.graph) (value_at estimate.now) }
     requires zero { value_at estimate.now start ≡ 0 }
     requires room { room.old ≡ G.count network.now.graph }
-    ensures found { OnOk result (ExtendsInOrder start_cmp (walks_over (Contains network.now.links.items))
-        (IsRouteBetween network.now.links.items network.now.names) network.now.names group.now found.old.items found.new.items) }
+    ensures found { OnOk result (ExtendsInOrder start_cmp (walks_over (Contains (id_links network.now)))
+        (IsRouteBetween (id_links network.now) network.now.names) network.now.names group.now found.old.items found.new.items) }
     ensures room { room.new ≡ room.old }
 {
     for pair in group {
@@ -126,7 +122,6 @@ fn find_guided<G: Graph>(
     room: &mut AstarRoom,
     found: &mut Vec<Found<Route>>,
 ) -> Result<(), NoMemory>
-    requires network { IsNetworkOf G.Graph network.now }
     requires start { start < length network.now.names }
     requires end { end < length network.now.names }
     requires differ { start ≢ end }
@@ -134,11 +129,10 @@ fn find_guided<G: Graph>(
     requires consistent { IsConsistent (LinksOf G.Graph network.now.graph) (value_at estimate.now) }
     requires zero { value_at estimate.now start ≡ 0 }
     requires room { room.old ≡ G.count network.now.graph }
-    ensures found { OnOk result (ExtendsInOrder start_cmp (walks_over (Contains network.now.links.items))
-        (IsRouteBetween network.now.links.items network.now.names) network.now.names (record { end = end; start = start } ∷ []) found.old.items found.new.items) }
+    ensures found { OnOk result (ExtendsInOrder start_cmp (walks_over (Contains (id_links network.now)))
+        (IsRouteBetween (id_links network.now) network.now.names) network.now.names (record { end = end; start = start } ∷ []) found.old.items found.new.items) }
     ensures room { room.new ≡ room.old }
 {
-    graph_of_numbered_links_fits(&network.graph);
     least_walk_of_graph_is_least_by_ids(&network.graph);
     if let Some(kept) = astar_route(alloc, &network.graph, start, end, estimate, room)? {
         found.push(Found { start, end, kept })?;

@@ -4,13 +4,10 @@ ghost use Rattle.pgr_walks.specs.Walk.{IsWalk};
 ghost use Rattle.pgr_walks.specs.LinksOf.{LinksOf};
 ghost use Rattle.pgr_search.specs.FinalLabels.{HoldsLabelsFrom};
 ghost use Rattle.pgr_numbers.specs.Names.{id_at};
-ghost use Rattle.pgr_answer.specs.Networks.{IsNetworkOf};
+ghost use Rattle.pgr_answer.specs.Networks.{id_links};
 
 use crate::network::Network;
-use pgr_numbers::{
-    graph_of_numbered_links_fits, labels_of_graph_are_labels_by_ids,
-    least_walk_of_graph_is_least_by_ids,
-};
+use pgr_numbers::{labels_of_graph_are_labels_by_ids, least_walk_of_graph_is_least_by_ids};
 use pgr_outside::NoMemory;
 use pgr_route::{Route, least_route};
 use pgr_search::Room;
@@ -33,15 +30,14 @@ pub(crate) trait Kept: Drop {
         start: u32,
         end: u32,
     ) -> Result<Option<Self>, NoMemory>
-        requires network { IsNetworkOf G.Graph network.now }
         requires room { HoldsLabelsFrom (G.count network.now.graph) (LinksOf G.Graph network.now.graph) (end ∷ []) room.now start }
         requires start { start < length network.now.names }
         requires end { end < length network.now.names }
         requires differ { start ≢ end }
-        ensures shows { IfOk result (λ found. IfSome found (shows network.now.links.items network.now.names
+        ensures shows { IfOk result (λ found. IfSome found (shows (id_links network.now) network.now.names
             (id_at network.now.names start) (id_at network.now.names end))) }
         ensures none { IfOk result (λ found. IfNone found ((walk : List (LinkOf ℤ))
-            → IsWalk (Contains network.now.links.items) (id_at network.now.names start) walk (id_at network.now.names end) → ⊥)) };
+            → IsWalk (Contains (id_links network.now)) (id_at network.now.names start) walk (id_at network.now.names end) → ⊥)) };
 }
 
 impl Kept for Route {
@@ -56,7 +52,6 @@ impl Kept for Route {
         start: u32,
         end: u32,
     ) -> Result<Option<Route>, NoMemory> {
-        graph_of_numbered_links_fits(&network.graph);
         least_walk_of_graph_is_least_by_ids(&network.graph);
         least_route(alloc, &network.graph, start, room)
     }
@@ -90,7 +85,7 @@ impl Kept for LeastCost {
 #[cfg(test)]
 mod tests {
     use super::*;
-    use crate::network::network_of;
+    use crate::edge_network::network_of;
     use pgr_search::{Bound, labels_until};
     use pgr_table::read_edges;
     use pgr_walks::RowGraph;
@@ -106,13 +101,11 @@ mod tests {
         start: u32,
         end: u32,
     ) -> Result<Option<K>, NoMemory>
-        requires network { IsNetworkOf ⟦<RowGraph as Graph>⟧ network.now }
         requires start { start < length network.now.names }
         requires end { end < length network.now.names }
         requires differ { start ≢ end }
     {
         let mut room = Room::for_size(alloc, network.names.len())?;
-        graph_of_numbered_links_fits(&network.graph);
         labels_until(&network.graph, &[end], Bound::Wanted(&[start]), &mut room);
         K::of(alloc, network, &room, start, end)
     }

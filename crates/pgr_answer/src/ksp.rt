@@ -4,19 +4,19 @@ ghost use Rattle.pgr_outside.specs.Lists.{IsStrictlyRising};
 ghost use Rattle.pgr_walks.specs.Graph.{Fits};
 ghost use Rattle.pgr_walks.specs.LinksOf.{LinksOf};
 ghost use Rattle.pgr_ksp.specs.Routes.{AreFirstK};
-ghost use Rattle.pgr_answer.specs.Networks.{IsNetworkOf};
 ghost use Rattle.pgr_answer.specs.Gathering.{pair_cmp};
 ghost use Rattle.pgr_answer.specs.Finding.{found_cmp, IsPairAmong, AreRoutesOf};
 ghost use Rattle.pgr_answer.specs.Ksp.{IsKsp};
 
+use crate::edge_network::network_of;
 use crate::found::Found;
 use crate::ksp_rows::rows_of_lists;
-use crate::network::{Network, network_of};
+use crate::network::Network;
 use crate::pair::Pair;
 use crate::pairs::asked_pairs;
 use crate::tables::Tables;
 use pgr_ksp::{Paths, given_routes_are_first};
-use pgr_numbers::{graph_of_numbered_links_fits, numbers_rise_with_ids, route_order_is_kept};
+use pgr_numbers::{numbers_rise_with_ids, route_order_is_kept};
 use pgr_outside::{Listed, NoMemory};
 use pgr_route::Route;
 use pgr_rows::Rows;
@@ -54,13 +54,11 @@ fn lists_for<G: Graph>(
     pairs: &[Pair],
     k: u32,
 ) -> Result<Vec<Found<Listed<Route>>>, NoMemory>
-    requires network { IsNetworkOf G.Graph network.now }
     requires among { All (IsPairAmong (length network.now.names)) pairs.now }
     requires rise { IsStrictlyRising pair_cmp pairs.now }
     ensures found { IfOk result (λ found. AreRoutesOf (LinksOf G.Graph network.now.graph) k pairs.now found.items) }
     ensures rise { IfOk result (λ found. IsStrictlyRising found_cmp found.items) }
 {
-    graph_of_numbered_links_fits(&network.graph);
     let mut found = Vec::new(alloc);
     for pair in pairs {
         let kept = first_routes(alloc, &network.graph, pair.start, pair.end, k)?;

@@ -5,9 +5,9 @@ use thiserror::Error;
 
 /// Why there are no rows: the first cause, in this order.
 ///
-/// The files that the command names are read in order: edges, points, restrictions, combinations. Each is read whole, then
-/// it is judged, and only then the next one is read. After the last one the restrictions are judged over the costs of the
-/// links: see [`restricted_sum`](pgr_graph::restricted_sum).
+/// The files that the command names are read in the order of their [`Role`]. Each is read whole, then it is judged, and
+/// only then the next one is read. After the last one the restrictions are judged over the costs of the links: see
+/// [`restricted_sum`](pgr_graph::restricted_sum).
 #[derive(Clone, Copy, Debug, PartialEq, Eq, Drop, Error)]
 pub enum Refused {
     /// A read of the file with this role failed: only where the count of faults of its name rose in this call.

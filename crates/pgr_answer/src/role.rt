@@ -4,7 +4,7 @@ ghost use Rattle.pgr_answer.specs.Roles.{roles as the_roles, name_of, file_name_
 use pgr_words::{Command, Function};
 use std::fmt;
 
-/// What a file is to a command.
+/// What a file is to a command. Files are read in the order of their roles here.
 #[derive(Clone, Copy, Debug, PartialEq, Eq)]
 pub enum Role {
     /// The table of edges.

@@ -1,5 +1,5 @@
 ghost use Rattle.std.specs.Prelude.{◌≡◌, ◌≢◌, ◌↔◌, ◌<◌, ◌^◌, ℤ, [], ◌∷◌, length, None, All, Contains, IfOk, OnOk};
-ghost use Rattle.pgr_outside.specs.Lists.{IsStrictlyRising, IsWithoutRepeats};
+ghost use Rattle.pgr_outside.specs.Lists.{IsStrictlyRising};
 ghost use Rattle.pgr_walks.specs.declared.link.LinkOf.{LinkOf};
 ghost use Rattle.pgr_walks.specs.Graph.{Fits};
 ghost use Rattle.pgr_walks.specs.LinksOf.{LinksOf};
@@ -11,20 +11,18 @@ ghost use Rattle.pgr_turns.specs.Seen.{graph_of, restrictions_of, vertex_at};
 ghost use Rattle.pgr_answer.specs.AllowedRoutes.{IsAllowedRoute, allowed_over};
 ghost use Rattle.pgr_answer.specs.Finding.{found_cmp, IsPairAmong, HaveEnd, AreFoundBy, ExtendsBy};
 ghost use Rattle.pgr_answer.specs.Gathering.{pair_cmp};
-ghost use Rattle.pgr_answer.specs.Networks.{IsNetworkOf};
+ghost use Rattle.pgr_answer.specs.Networks.{id_links};
 ghost use Rattle.pgr_answer.specs.Trsp.{IsTrsp};
 
+use crate::edge_network::network_of;
 use crate::found::{Found, count_of_end, starts_of};
-use crate::network::{Network, network_of};
+use crate::network::Network;
 use crate::pair::Pair;
 use crate::pairs::asked_pairs;
 use crate::path_rows::rows_of_routes;
 use crate::tables::Tables;
 use pgr_graph::links_have_one_cost;
-use pgr_numbers::{
-    costs_and_hops_are_kept, graph_of_numbered_links_fits, numbers_rise_with_ids,
-    route_order_is_kept,
-};
+use pgr_numbers::{costs_and_hops_are_kept, numbers_rise_with_ids, route_order_is_kept};
 use pgr_outside::{Listed, NoMemory};
 use pgr_route::Route;
 use pgr_rows::Rows;
@@ -66,9 +64,7 @@ fn turned_network<'a, G: Graph>(
     turns: &'a Turns,
 ) -> Result<TurnGraph<'a, G, RowGraph>, NoMemory>
     requires sum { restricted_fault tables.now.edges directed tables.now.restrictions ≡ None }
-    requires network { IsNetworkOf G.Graph network.now }
-    requires links { (link : LinkOf ℤ) → Contains network.now.links.items link ↔ IsLinkOfTable tables.now.edges directed link }
-    requires once { IsWithoutRepeats network.now.links.items }
+    requires links { (link : LinkOf ℤ) → Contains (id_links network.now) link ↔ IsLinkOfTable tables.now.edges directed link }
     requires few { length network.now.names < 2 ^ 31 }
     requires turns { turns.now ≡ nonempty tables.now.restrictions }
     ensures graph { IfOk result (λ turned. graph_of turned ≡ network.now.graph) }
@@ -81,7 +77,6 @@ fn turned_network<'a, G: Graph>(
     numbers_rise_with_ids();
     links_have_one_cost(&tables.edges);
     costs_and_hops_are_kept();
-    graph_of_numbered_links_fits(&network.graph);
     edges_with_two_ends_have_few_states(&network.graph, turns);
     TurnGraph::make(alloc, &network.graph, turns)
 }
@@ -96,13 +91,12 @@ fn allowed_for<'a, G: Graph, M: Graph>(
     turned: &TurnGraph<'a, G, M>,
     pairs: &[Pair],
 ) -> Result<Vec<Found<Route>>, NoMemory>
-    requires network { IsNetworkOf G.Graph network.now }
     requires graph { graph_of turned.now ≡ network.now.graph }
     requires fits { Fits (LinksOf ⟦<TurnGraph<'a, G, M> as Graph>⟧ turned.now) }
     requires among { All (IsPairAmong (length network.now.names)) pairs.now }
     requires rise { IsStrictlyRising pair_cmp pairs.now }
-    ensures found { IfOk result (λ found. AreFoundBy (allowed_over network.now.links.items (restrictions_of turned.now))
-        (IsAllowedRoute network.now.links.items (restrictions_of turned.now) network.now.names) network.now.names pairs.now found.items) }
+    ensures found { IfOk result (λ found. AreFoundBy (allowed_over (id_links network.now) (restrictions_of turned.now))
+        (IsAllowedRoute (id_links network.now) (restrictions_of turned.now) network.now.names) network.now.names pairs.now found.items) }
     ensures rise { IfOk result (λ found. IsStrictlyRising found_cmp found.items) }
 {
     let size = turned.size();
@@ -127,15 +121,14 @@ fn allow_group<'a, G: Graph, M: Graph>(
     room: &mut Room,
     found: &mut Vec<Found<Route>>,
 ) -> Result<(), NoMemory>
-    requires network { IsNetworkOf G.Graph network.now }
     requires graph { graph_of turned.now ≡ network.now.graph }
     requires fits { Fits (LinksOf ⟦<TurnGraph<'a, G, M> as Graph>⟧ turned.now) }
     requires some { group.now ≢ [] }
     requires one_end { HaveEnd group.now }
     requires among { All (IsPairAmong (length network.now.names)) group.now }
     requires size { length room.old ≡ ⟦<TurnGraph<'a, G, M> as Graph>⟧.count turned.now }
-    ensures found { OnOk result (ExtendsBy (allowed_over network.now.links.items (restrictions_of turned.now))
-        (IsAllowedRoute network.now.links.items (restrictions_of turned.now) network.now.names) network.now.names group.now found.old.items found.new.items) }
+    ensures found { OnOk result (ExtendsBy (allowed_over (id_links network.now) (restrictions_of turned.now))
+        (IsAllowedRoute (id_links network.now) (restrictions_of turned.now) network.now.names) network.now.names group.now found.old.items found.new.items) }
     ensures size { length room.new ≡ ⟦<TurnGraph<'a, G, M> as Graph>⟧.count turned.now }
 {
     let end = group[0].end;
@@ -159,7 +152,6 @@ fn allow_pair<'a, G: Graph, M: Graph>(
     end: u32,
     found: &mut Vec<Found<Route>>,
 ) -> Result<(), NoMemory>
-    requires network { IsNetworkOf G.Graph network.now }
     requires graph { graph_of turned.now ≡ network.now.graph }
     requires fits { Fits (LinksOf ⟦<TurnGraph<'a, G, M> as Graph>⟧ turned.now) }
     requires room { HoldsAllowed (⟦<TurnGraph<'a, G, M> as Graph>⟧.count turned.now)
@@ -167,8 +159,8 @@ fn allow_pair<'a, G: Graph, M: Graph>(
     requires start { start < length network.now.names }
     requires end { end < length network.now.names }
     requires differ { start ≢ end }
-    ensures { OnOk result (ExtendsBy (allowed_over network.now.links.items (restrictions_of turned.now))
-        (IsAllowedRoute network.now.links.items (restrictions_of turned.now) network.now.names) network.now.names
+    ensures { OnOk result (ExtendsBy (allowed_over (id_links network.now) (restrictions_of turned.now))
+        (IsAllowedRoute (id_links network.now) (restrictions_of turned.now) network.now.names) network.now.names
         (record { end = end; start = start } ∷ []) found.old.items found.new.items) }
 {
     numbers_rise_with_ids();

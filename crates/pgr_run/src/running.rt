@@ -25,9 +25,9 @@ use std::alloc::Global;
 /// Answers a command line over the files of a store: the result table on one sink, notes and a message on another.
 ///
 /// The words are a function's name and its options; see [`read_words`](pgr_words::read_words). The causes are judged in
-/// this order: the words; each file that they name, in the order edges, points, restrictions, combinations, which is read
-/// whole and judged before the next is read; the restrictions over the costs of the links; a write that failed. `Memory` may
-/// stand in place of any of them up to the writing.
+/// this order: the words; each file that they name, in the order of [`Role`](pgr_answer::Role), which is read whole and
+/// judged before the next is read; the restrictions over the costs of the links; a write that failed. `Memory` may stand in
+/// place of any of them up to the writing.
 /// The output is written only after all rows stand, the whole header line first, so every status but `Done` and a failed
 /// write leaves it as it was. The other sink receives the notes of the answer, a line each, before the output is written; and
 /// one line for the cause of every status but `Done`, last of all. Where it fails, it holds a prefix of these lines, nothing

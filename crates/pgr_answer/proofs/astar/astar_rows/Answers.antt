@@ -6,10 +6,11 @@ use Rattle.pgr_answer.proofs.TablesFound.{pairs_among, found_named, path_table_f
 use Rattle.pgr_answer.proofs.EstimatesById.{names_named}
 use Rattle.pgr_answer.proofs.NoteLemmas.{notes_found}
 use Rattle.pgr_answer.proofs.GuidedLemmas.{pairs_moved, pairs_by_start, starts_of_pairs, starts_below}
+use Rattle.pgr_answer.proofs.NetworkLemmas.{is_network}
 use Rattle.pgr_answer.proofs.astar.astar_rows.Goals as goal
 
 pub guided_routes-requires-clause-named : goal.guided_routes-requires-clause-named
-guided_routes-requires-clause-named c = names_named _ _ _ _ c.in_ok-network.ensures.network.ends c.in_ok-network.ensures.links
+guided_routes-requires-clause-named c = names_named _ _ _ _ (is_network c.in_ok-network.network).ends c.in_ok-network.ensures.links
 
 pub guided_routes-requires-clause-starts : goal.guided_routes-requires-clause-starts
 guided_routes-requires-clause-starts c = rw c.as_slice-asked.ensures.value
@@ -48,7 +49,7 @@ rows_of_routes-requires-clause-links c = rw c.as_slice-found.ensures.value (rout
 pub returns-clause-rows : goal.returns-clause-rows
 returns-clause-rows c =
     let names = c.in_ok-network.network.names in
-    let ends = c.in_ok-network.ensures.network.ends in
+    let ends = (is_network c.in_ok-network.network).ends in
     let asked = rw (c.as_slice-starts.ensures, c.as_slice-ends.ensures) at (pairs_moved _ _ _ c.in_ok-pairs.ensures.exactly c.sort_unstable_by_key.ensures.permutation) in
     let are = rw c.as_slice-pairs.ensures.value at c.in_ok-found.ensures.found in
     let rows = rw c.as_slice-found.ensures.value at c.in_ok-rows.ensures in
@@ -60,4 +61,4 @@ pub returns-clause-notes : goal.returns-clause-notes
 returns-clause-notes c =
     let starts = rw (c.as_slice-starts.ensures, c.as_slice-ends.ensures) at c.in_ok-asked.ensures.exactly in
     let notes = rw c.as_slice-asked.ensures.value at c.in_ok-found.ensures.notes in
-    notes_found _ _ c.in_ok-network.ensures.links _ _ _ c.in_ok-network.ensures.network.ends _ starts _ notes
+    notes_found _ _ c.in_ok-network.ensures.links _ _ _ (is_network c.in_ok-network.network).ends _ starts _ notes

@@ -2,6 +2,7 @@
 use Rattle.std.proofs.Common.{◌∙◌}
 use Rattle.pgr_answer.specs.Pairs.{IsAsked}
 use Rattle.pgr_answer.proofs.TablesFound.{pairs_among, found_named, cost_table_found}
+use Rattle.pgr_answer.proofs.NetworkLemmas.{is_network}
 use Rattle.pgr_answer.proofs.costs.costs_between.Goals as goal
 
 pub found_for-requires-clause-among : goal.found_for-requires-clause-among
@@ -16,7 +17,7 @@ rows_of_costs-requires c =
 pub returns : goal.returns
 returns c =
     let names = c.in_ok-network.network.names in
-    let ends = c.in_ok-network.ensures.network.ends in
+    let ends = (is_network c.in_ok-network.network).ends in
     let are = rw c.as_slice-pairs.ensures.value at c.in_ok-found.ensures.found in
     let rows = rw c.as_slice-found.ensures.value at c.in_ok-rows.ensures in
     cost_table_found names _ _ c.in_ok-pairs.ensures.exactly _ ends

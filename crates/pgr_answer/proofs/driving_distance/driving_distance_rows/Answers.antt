@@ -6,16 +6,18 @@ use Rattle.pgr_reach.specs.Equicost.{listed}
 use Rattle.pgr_answer.specs.Rooted.{IsListBelow}
 use Rattle.pgr_rows.specs.declared.rows.Rows.TheVariants.{Reaches}
 use Rattle.pgr_answer.proofs.ReachesFound.{roots_below, shown_below, reach_table_found}
+use Rattle.pgr_answer.specs.Networks.{id_links}
+use Rattle.pgr_answer.proofs.NetworkLemmas.{is_network}
 use Rattle.pgr_answer.proofs.driving_distance.driving_distance_rows.Goals as goal
 
-pub reaches_of-requires-clause-roots : goal.reaches_of-requires-clause-roots
-reaches_of-requires-clause-roots c = rw c.as_slice-roots.ensures.value (roots_below _ c.as_slice-starts.result.now _ c.in_ok-roots.ensures.exactly)
+pub reaches_of-requires : goal.reaches_of-requires
+reaches_of-requires c = record { roots = rw c.as_slice-roots.ensures.value (roots_below _ c.as_slice-starts.result.now _ c.in_ok-roots.ensures.exactly) }
 
 pub rows_of_reaches-requires : goal.rows_of_reaches-requires
 rows_of_reaches-requires c =
-    let network = c.in_ok-network.ensures.network in
+    let network = is_network c.in_ok-network.network in
     let names = c.in_ok-network.network.names in
-    let links = c.in_ok-network.network.links.items in
+    let links = id_links c.in_ok-network.network in
     let left = c.leave_shown.new.reaches.items in
     subst (λ (reaches : List Reach). All (λ (reach : Reach). IsListBelow (length names) (listed reach)) reaches) (sym c.as_slice-shown.ensures.value)
     (shown_below names links network.numbers _ _ network.ends network.numbered network.exactly
@@ -28,9 +30,9 @@ rows_of_reaches-requires c =
 
 pub returns : goal.returns
 returns c =
-    let network = c.in_ok-network.ensures.network in
+    let network = is_network c.in_ok-network.network in
     let names = c.in_ok-network.network.names in
-    let links = c.in_ok-network.network.links.items in
+    let links = id_links c.in_ok-network.network in
     let rows = rw c.as_slice-shown.ensures.value at c.in_ok-rows.ensures in
     reach_table_found names links network.numbers _ _ network.ends network.numbered network.exactly
     (c.walks_correspond.ensures.named names links network.numbers) (c.walks_correspond.ensures.numbered names links network.numbers)

@@ -7,17 +7,14 @@ use Rattle.pgr_walks.specs.LinksOf.{LinksOf}
 use Rattle.pgr_reach.specs.declared.reach.Reach.{Reach}
 use Rattle.pgr_reach.specs.Within.{AreWithin}
 use Rattle.pgr_answer.proofs.ReachTables.{roots_more}
+use Rattle.pgr_answer.specs.Networks.{id_links}
+use Rattle.pgr_answer.proofs.NetworkLemmas.{is_network}
 use Rattle.pgr_answer.proofs.driving_distance.reaches_of.Goals as goal
-
-pub within-requires-clause-fits : goal.within-requires-clause-fits
-within-requires-clause-fits g c =
-    let network = c.requires.network in
-    c.graph_of_numbered_links_fits.ensures c.args.network.now.names c.args.network.now.links.items network.numbers network.numbered network.exactly network.fits
 
 pub within-requires-clause-root : goal.within-requires-clause-root
 within-requires-clause-root g c =
     let below : get_or c.args.roots.now c.loop-root.root-index 0 < length c.args.network.now.names = c.requires.roots c.loop-root.root-index 0 (omega arith) in
-    omega (arith, below, c.requires.network.size_is)
+    omega (arith, below, c.args.network.now.size_is)
 
 pub loop-root-preserved : goal.loop-root-preserved
 loop-root-preserved g c =

@@ -5,11 +5,13 @@ use Rattle.std.proofs.lemmas.List.{take_all}
 use Rattle.pgr_answer.specs.Finding.{Extends}
 use Rattle.pgr_search.specs.FinalLabels.{wanted_known}
 use Rattle.pgr_answer.proofs.FoundLemmas.{extends_more, one_end_pair, starts_among, start_among}
+use Rattle.pgr_answer.specs.Networks.{id_links}
+use Rattle.pgr_answer.proofs.NetworkLemmas.{is_network}
 use Rattle.pgr_answer.proofs.found.find_group.Goals as goal
 
 pub labels_until-requires-clause-bound : goal.labels_until-requires-clause-bound
 labels_until-requires-clause-bound g c =
-    rw (c.as_slice.ensures.value, c.in_ok-starts.ensures, c.requires.network.size_is) (starts_among (length c.args.network.now.names) c.args.group.now c.requires.among)
+    rw (c.as_slice.ensures.value, c.in_ok-starts.ensures, c.args.network.now.size_is) (starts_among (length c.args.network.now.names) c.args.group.now c.requires.among)
 
 pub find_pair-requires-clause-room : goal.find_pair-requires-clause-room
 find_pair-requires-clause-room g c =
@@ -23,6 +25,6 @@ loop-pair-preserved g c =
 
 pub returns-clause-found : goal.returns-clause-found
 returns-clause-found g c =
-    subst (λ pairs. Extends (Contains c.args.network.now.links.items)
-    (g.K.Kept.shows c.args.network.now.links.items c.args.network.now.names) c.args.network.now.names pairs c.args.found.now.items c.loop-pair.found.items)
+    subst (λ pairs. Extends (Contains (id_links c.args.network.now))
+    (g.K.Kept.shows (id_links c.args.network.now) c.args.network.now.names) c.args.network.now.names pairs c.args.found.now.items c.loop-pair.found.items)
     (take_all c.loop-pair.pair-index c.args.group.now (omega (arith, c.loop-pair-test.false))) c.loop-pair.invariant

@@ -8,6 +8,7 @@ use Rattle.pgr_outside.specs.Lists.{IsStrictlyRising}
 use Rattle.pgr_answer.specs.Gathering.{pair_cmp}
 use Rattle.pgr_answer.specs.Finding.{IsPairAmong, AreFound}
 use Rattle.pgr_answer.proofs.FoundLemmas.{none_found, rises_front, found_moved, found_rises, all_done}
+use Rattle.pgr_answer.specs.Networks.{id_links}
 use Rattle.pgr_answer.proofs.found.found_for.Goals as goal
 
 pub loop-rest-init : goal.loop-rest-init
@@ -41,10 +42,10 @@ loop-rest-preserved g c =
 pub returns-clause-found : goal.returns-clause-found
 returns-clause-found g c =
     let so_far = c.loop-rest.invariant in
-    let Shows = g.K.Kept.shows c.args.network.now.links.items c.args.network.now.names in
+    let Shows = g.K.Kept.shows (id_links c.args.network.now) c.args.network.now.names in
     let none : length c.loop-rest.rest.now ≡ 0 = (Decides-eqb (length c.loop-rest.rest.now) 0).0 (sym c.is_empty.ensures ∙ c.loop-rest-test.false) in
     let done = all_done c.args.pairs.now so_far.done c.loop-rest.rest.now so_far.order none in
-    let are = subst (λ pairs. AreFound (Contains c.args.network.now.links.items) Shows c.args.network.now.names pairs c.loop-rest.found.items) done so_far.found.0 in
+    let are = subst (λ pairs. AreFound (Contains (id_links c.args.network.now)) Shows c.args.network.now.names pairs c.loop-rest.found.items) done so_far.found.0 in
     found_moved _ _ _ _ _ _ c.sort_unstable_by_key.ensures.permutation are
 
 pub returns-clause-rise : goal.returns-clause-rise

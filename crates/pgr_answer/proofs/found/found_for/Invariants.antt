@@ -2,6 +2,7 @@ use Rattle.std.proofs.Common.{◌≡◌, List, ◌++◌, length}
 use Rattle.std.specs.Prelude.{All, Contains}
 use Rattle.pgr_answer.specs.declared.pair.Pair.{Pair}
 use Rattle.pgr_answer.specs.Finding.{IsPairAmong, AreFound, RisesByPair}
+use Rattle.pgr_answer.specs.Networks.{id_links}
 use Rattle.pgr_answer.proofs.found.found_for.Given as goal
 
 abbrev pub invariant-loop-rest : goal.invariant-loop-rest
@@ -11,7 +12,7 @@ invariant-loop-rest g l = record {
   order : l.pairs ≡ done ++ l.rest;
   among : All (IsPairAmong (length l.network.names)) l.rest;
   -- what is found is for those that are done
-  found : AreFound (Contains l.network.links.items) (g.K.Kept.shows l.network.links.items l.network.names) l.network.names done l.found.items × RisesByPair l.found.items;
+  found : AreFound (Contains (id_links l.network)) (g.K.Kept.shows (id_links l.network) l.network.names) l.network.names done l.found.items × RisesByPair l.found.items;
   size : length l.room ≡ g.G.Graph.count l.network.graph;
 }
 

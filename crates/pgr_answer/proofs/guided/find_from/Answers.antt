@@ -2,7 +2,7 @@
 use Rattle.std.proofs.Common.{◌∙◌, length, refl, arith, subst}
 use Rattle.std.specs.Prelude.{Contains}
 use Rattle.std.proofs.lemmas.List.{take_all}
-use Rattle.pgr_answer.specs.Networks.{IsRouteBetween}
+use Rattle.pgr_answer.specs.Networks.{id_links, IsRouteBetween}
 use Rattle.pgr_answer.specs.Answers.{walks_over}
 use Rattle.pgr_answer.specs.Finding.{start_cmp, ExtendsInOrder}
 use Rattle.pgr_answer.proofs.FoundLemmas.{extends_nothing_by, extends_more_by, one_start_pair, start_below, start_differs}
@@ -28,6 +28,6 @@ loop-pair-preserved g c = record {
 
 pub returns-clause-found : goal.returns-clause-found
 returns-clause-found g c =
-    subst (λ pairs. ExtendsInOrder start_cmp (walks_over (Contains c.args.network.now.links.items))
-    (IsRouteBetween c.args.network.now.links.items c.args.network.now.names) c.args.network.now.names pairs c.args.found.now.items c.loop-pair.found.items)
+    subst (λ pairs. ExtendsInOrder start_cmp (walks_over (Contains (id_links c.args.network.now)))
+    (IsRouteBetween (id_links c.args.network.now) c.args.network.now.names) c.args.network.now.names pairs c.args.found.now.items c.loop-pair.found.items)
     (take_all c.loop-pair.pair-index c.args.group.now (omega (arith, c.loop-pair-test.false))) c.loop-pair.invariant.found

@@ -4,23 +4,20 @@ use Rattle.std.specs.Result.{is_ok}
 use Rattle.pgr_answer.specs.Finding.{start_cmp}
 use Rattle.pgr_answer.proofs.KeptLemmas.{IsWalk-from_one, least_to_one, route_between}
 use Rattle.pgr_answer.proofs.FoundLemmas.{extends_some_by, extends_none_by}
+use Rattle.pgr_answer.specs.Networks.{id_links}
+use Rattle.pgr_answer.proofs.NetworkLemmas.{is_network}
 use Rattle.pgr_answer.proofs.guided.find_guided.Goals as goal
 
-pub astar_route-requires-clause-fits : goal.astar_route-requires-clause-fits
-astar_route-requires-clause-fits g c =
-    let network = c.requires.network in
-    c.graph_of_numbered_links_fits.ensures c.args.network.now.names c.args.network.now.links.items network.numbers network.numbered network.exactly network.fits
-
 pub astar_route-requires-clause-start : goal.astar_route-requires-clause-start
-astar_route-requires-clause-start g c = omega (arith, c.requires.start, c.requires.network.size_is)
+astar_route-requires-clause-start g c = omega (arith, c.requires.start, c.args.network.now.size_is)
 
 pub astar_route-requires-clause-end : goal.astar_route-requires-clause-end
-astar_route-requires-clause-end g c = omega (arith, c.requires.end, c.requires.network.size_is)
+astar_route-requires-clause-end g c = omega (arith, c.requires.end, c.args.network.now.size_is)
 
 pub returns-in_ok-push-clause-found : goal.returns-in_ok-push-clause-found
 returns-in_ok-push-clause-found g c =
     let pushed : is_ok c.push.result ≡ true = search rules in
-    let network = c.requires.network in
+    let network = is_network c.args.network.now in
     let by_numbers = least_to_one _ c.args.start c.args.end c.in-Some.kept (rw c.in-Some.is at c.in_ok-kept.ensures.least) in
     extends_some_by start_cmp _ _ _ c.args.start c.args.end c.in-Some.kept _ _
     (route_between _ _ _ _ network c.args.start c.args.end c.in-Some.kept c.requires.differ by_numbers
@@ -29,7 +26,7 @@ returns-in_ok-push-clause-found g c =
 
 pub returns-in_default-clause-found : goal.returns-in_default-clause-found
 returns-in_default-clause-found g c =
-    let network = c.requires.network in
+    let network = is_network c.args.network.now in
     let none = rw c.in_default.is at c.in_ok-kept.ensures.none in
     extends_none_by start_cmp _ _ _ (record { end = c.args.end; start = c.args.start }) _
     (c.least_walk_of_graph_is_least_by_ids.ensures.none _ _ _ c.args.start c.args.end network.numbered network.exactly c.requires.start c.requires.end

@@ -7,11 +7,12 @@ use Rattle.pgr_outside.specs.Lists.{IsStrictlyRising}
 use Rattle.pgr_answer.specs.declared.pair.Pair.{Pair}
 use Rattle.pgr_answer.specs.Notes.{BreaksEstimate}
 use Rattle.pgr_answer.specs.Noting.{AreNotesOf}
-use Rattle.pgr_answer.specs.Networks.{IsRouteBetween}
+use Rattle.pgr_answer.specs.Networks.{id_links, IsRouteBetween}
 use Rattle.pgr_answer.specs.Finding.{IsPairAmong, start_cmp, AreFound}
 use Rattle.pgr_answer.proofs.NoteLemmas.{no_notes, notes_gain, starts_before}
 use Rattle.pgr_answer.proofs.FoundLemmas.{none_found, rises_front, all_done}
 use Rattle.pgr_answer.proofs.GuidedLemmas.{rises_back, later_starts, none_left}
+use Rattle.pgr_answer.proofs.NetworkLemmas.{is_network}
 use Rattle.pgr_answer.proofs.guided.guided_routes.Goals as goal
 
 pub loop-start-init : goal.loop-start-init
@@ -54,14 +55,14 @@ loop-start-preserved g c =
       found = c.in_ok-find_from.ensures.found so_far.done (rises_front start_cmp (so_far.done ++ front) back
           (subst (IsStrictlyRising start_cmp) order c.requires.by_start)) so_far.found;
       notes = notes_gain _ _ names c.args.starts.now i _ (omega arith) refl _ _ so_far.notes
-          (starts_before names (λ m n. c.numbers_rise_with_ids.ensures.order names m n c.requires.network.ends.rise) c.args.starts.now c.requires.rise c.requires.starts
+          (starts_before names (λ m n. c.numbers_rise_with_ids.ensures.order names m n c.args.network.now.rise) c.args.starts.now c.requires.rise c.requires.starts
           i _ (omega arith) refl)
           c.in_ok-estimate.ensures.noted;
       room = c.in_ok-find_from.ensures.room ∙ so_far.room;
     }
 
 pub returns-clause-notes : goal.returns-clause-notes
-returns-clause-notes g c = subst (λ starts. AreNotesOf (Contains c.args.network.now.links.items)
+returns-clause-notes g c = subst (λ starts. AreNotesOf (Contains (id_links c.args.network.now))
     (BreaksEstimate c.args.edges.now c.args.command.now.heuristic c.args.command.now.factor)
     c.args.network.now.names starts c.loop-start.notes.items) (take_all c.loop-start.start-index c.args.starts.now (omega (arith, c.loop-start-test.false)))
     c.loop-start.invariant.notes
@@ -70,7 +71,7 @@ pub returns-clause-found : goal.returns-clause-found
 returns-clause-found g c =
     let so_far = c.loop-start.invariant in
     let names = c.args.network.now.names in
-    let links = c.args.network.now.links.items in
+    let links = id_links c.args.network.now in
     let none = none_left c.args.starts.now c.loop-start.start-index (omega (arith, c.loop-start-test.false)) c.loop-start.rest.now so_far.started in
     let done = all_done c.args.pairs.now so_far.done c.loop-start.rest.now so_far.order none in
     subst (λ (pairs : List Pair). AreFound (Contains links) (IsRouteBetween links names) names pairs c.loop-start.found.items) done so_far.found.0

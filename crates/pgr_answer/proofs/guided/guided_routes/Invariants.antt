@@ -3,7 +3,7 @@ use Rattle.std.specs.Prelude.{All, Contains}
 use Rattle.pgr_answer.specs.declared.pair.Pair.{Pair}
 use Rattle.pgr_answer.specs.Notes.{BreaksEstimate}
 use Rattle.pgr_answer.specs.Noting.{AreNotesOf}
-use Rattle.pgr_answer.specs.Networks.{IsRouteBetween}
+use Rattle.pgr_answer.specs.Networks.{id_links, IsRouteBetween}
 use Rattle.pgr_answer.specs.Finding.{IsPairAmong, start_cmp, AreFound, RisesBy}
 use Rattle.pgr_answer.proofs.guided.guided_routes.Given as goal
 
@@ -15,9 +15,9 @@ invariant-loop-start g l = record {
   among : All (IsPairAmong (length l.network.names)) l.rest;
   started : All (λ pair. Contains (drop l.start-index l.starts) pair.start) l.rest;
   -- what is found is for those that are done
-  found : AreFound (Contains l.network.links.items) (IsRouteBetween l.network.links.items l.network.names) l.network.names done l.found.items × RisesBy start_cmp l.found.items;
+  found : AreFound (Contains (id_links l.network)) (IsRouteBetween (id_links l.network) l.network.names) l.network.names done l.found.items × RisesBy start_cmp l.found.items;
   -- the notes are those of the starts so far
-  notes : AreNotesOf (Contains l.network.links.items) (BreaksEstimate l.edges l.command.heuristic l.command.factor) l.network.names
+  notes : AreNotesOf (Contains (id_links l.network)) (BreaksEstimate l.edges l.command.heuristic l.command.factor) l.network.names
       (take l.start-index l.starts) l.notes.items;
   room : l.room ≡ g.G.Graph.count l.network.graph;
 }

@@ -11,14 +11,16 @@ use Rattle.pgr_turns.specs.Seen.{restrictions_of}
 use Rattle.pgr_answer.proofs.ClassTables.{links_named}
 use Rattle.pgr_answer.proofs.FoundLemmas.{extends_some, extends_none}
 use Rattle.pgr_answer.proofs.AllowedById.{allowed_route_is, none_allowed}
+use Rattle.pgr_answer.specs.Networks.{id_links}
+use Rattle.pgr_answer.proofs.NetworkLemmas.{is_network}
 use Rattle.pgr_answer.proofs.trsp.allow_pair.Goals as goal
 
 pub returns-in_ok-push : goal.returns-in_ok-push
 returns-in_ok-push g c =
     let pushed : is_ok c.push.result ≡ true = search rules in
     let names = c.args.network.now.names in
-    let links = c.args.network.now.links.items in
-    let network = c.requires.network in
+    let links = id_links c.args.network.now in
+    let network = is_network c.args.network.now in
     let stand = links_named names links network.numbers _ _ (Contains links) network.numbered network.exactly (λ link. ((λ h. h), (λ h. h))) in
     let restrictions = restrictions_of c.args.turned.now in
     let least = subst (λ graph. IsLeast nat_cmp (IsAllowedWalk (LinksOf g.G.Graph graph) restrictions c.args.start c.args.end) c.in-Some.kept) c.requires.graph
@@ -31,8 +33,8 @@ returns-in_ok-push g c =
 pub returns-in_default : goal.returns-in_default
 returns-in_default g c =
     let names = c.args.network.now.names in
-    let links = c.args.network.now.links.items in
-    let network = c.requires.network in
+    let links = id_links c.args.network.now in
+    let network = is_network c.args.network.now in
     let stand = links_named names links network.numbers _ _ (Contains links) network.numbered network.exactly (λ link. ((λ h. h), (λ h. h))) in
     let restrictions = restrictions_of c.args.turned.now in
     let none = subst (λ graph. (walk : List (LinkOf ℕ)) → IsAllowedWalk (LinksOf g.G.Graph graph) restrictions c.args.start c.args.end walk → ⊥) c.requires.graph

@@ -9,6 +9,7 @@ use Rattle.pgr_answer.specs.Gathering.{pair_cmp}
 use Rattle.pgr_answer.specs.AllowedRoutes.{IsAllowedRoute, allowed_over}
 use Rattle.pgr_answer.specs.Finding.{IsPairAmong, AreFoundBy}
 use Rattle.pgr_answer.proofs.FoundLemmas.{none_found, rises_front, found_moved, found_rises, all_done}
+use Rattle.pgr_answer.specs.Networks.{id_links}
 use Rattle.pgr_answer.proofs.trsp.allowed_for.Goals as goal
 
 pub loop-rest-init : goal.loop-rest-init
@@ -45,7 +46,7 @@ loop-rest-preserved g c =
 pub returns-clause-found : goal.returns-clause-found
 returns-clause-found g c =
     let so_far = c.loop-rest.invariant in
-    let links = c.args.network.now.links.items in
+    let links = id_links c.args.network.now in
     let restrictions = restrictions_of c.args.turned.now in
     let none : length c.loop-rest.rest.now ≡ 0 = (Decides-eqb (length c.loop-rest.rest.now) 0).0 (sym c.is_empty.ensures ∙ c.loop-rest-test.false) in
     let done = all_done c.args.pairs.now so_far.done c.loop-rest.rest.now so_far.order none in

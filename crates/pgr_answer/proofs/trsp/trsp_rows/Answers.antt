@@ -5,6 +5,8 @@ use Rattle.pgr_answer.specs.Finding.{AreFoundBy}
 use Rattle.pgr_answer.specs.Pairs.{IsAsked}
 use Rattle.pgr_answer.proofs.TablesFound.{pairs_among, found_named}
 use Rattle.pgr_answer.proofs.AllowedTables.{allowed_table_found, allowed_numbered, allowed_some}
+use Rattle.pgr_answer.specs.Networks.{id_links}
+use Rattle.pgr_answer.proofs.NetworkLemmas.{is_network}
 use Rattle.pgr_answer.proofs.trsp.trsp_rows.Goals as goal
 
 pub allowed_for-requires-clause-among : goal.allowed_for-requires-clause-among
@@ -26,8 +28,8 @@ rows_of_routes-requires-clause-links c = rw c.as_slice-found.ensures.value (allo
 pub returns : goal.returns
 returns c =
     let names = c.in_ok-network.network.names in
-    let links = c.in_ok-network.network.links.items in
-    let ends = c.in_ok-network.ensures.network.ends in
+    let links = id_links c.in_ok-network.network in
+    let ends = (is_network c.in_ok-network.network).ends in
     let asked = rw (c.as_slice-starts.ensures, c.as_slice-ends.ensures) at c.in_ok-pairs.ensures.exactly in
     let found = rw c.as_slice-pairs.ensures.value at c.in_ok-found.ensures.found in
     let are = subst (λ restrictions. AreFoundBy (allowed_over links restrictions) (IsAllowedRoute links restrictions names) names c.in_ok-pairs.pairs.items

@@ -11,13 +11,15 @@ use Rattle.pgr_numbers.specs.Names.{named}
 use Rattle.pgr_answer.proofs.ClassTables.{links_named}
 use Rattle.pgr_answer.proofs.RestrictedSums.{bounded, elements_nonempty}
 use Rattle.pgr_answer.proofs.TwoEnds.{same_ends, same_number_ends, few_states}
+use Rattle.pgr_answer.specs.Networks.{id_links}
+use Rattle.pgr_answer.proofs.NetworkLemmas.{is_network}
 use Rattle.pgr_answer.proofs.trsp.turned_network.Goals as goal
 
 pub make-requires : goal.make-requires
 make-requires g c =
     let names = c.args.network.now.names in
-    let links = c.args.network.now.links.items in
-    let network = c.requires.network in
+    let links = id_links c.args.network.now in
+    let network = is_network c.args.network.now in
     let Has = IsLinkOfTable c.args.tables.now.edges c.args.directed in
     let stand = links_named names links network.numbers _ _ Has network.numbered network.exactly c.requires.links in
     let few = c.edges_with_two_ends_have_few_states.ensures
@@ -31,16 +33,16 @@ make-requires g c =
 pub returns-clause-fits : goal.returns-clause-fits
 returns-clause-fits g c =
     let names = c.args.network.now.names in
-    let links = c.args.network.now.links.items in
-    let network = c.requires.network in
+    let links = id_links c.args.network.now in
+    let network = is_network c.args.network.now in
     let total = table_cost c.args.directed c.args.tables.now.edges in
     let cost : cost_of network.numbers ≡ total =
     sym (c.costs_and_hops_are_kept.ensures.cost names network.numbers)
-    ∙ (ap cost_of network.numbered.same ∙ c.links_have_one_cost.ensures c.args.directed links c.requires.once c.requires.links) in
+    ∙ (ap cost_of network.numbered.same ∙ c.links_have_one_cost.ensures c.args.directed links c.args.network.now.once c.requires.links) in
     let ids : elements c.args.turns.now ≡ elements c.args.tables.now.restrictions = ap elements c.requires.turns ∙ elements_nonempty c.args.tables.now.restrictions in
     ⊎_elim
     (λ none. IfOk-weaker c.make.result _ _ (λ turned fits. fits (ids ∙ none)
-    (c.graph_of_numbered_links_fits.ensures names links network.numbers network.numbered network.exactly network.fits)) c.make.ensures.fits)
+    c.args.network.now.fits) c.make.ensures.fits)
     (λ small. IfOk-weaker c.make.result _ _ (λ turned costs. costs network.numbers (λ link has. (network.exactly link).0 has)
     (subst (λ w. w * (1 + elements c.args.turns.now) ≤ greatest) (sym cost) (subst (λ e. total * (1 + e) ≤ greatest) (sym ids) small))) c.make.ensures.costs)
     (bounded total c.args.tables.now.restrictions c.requires.sum)

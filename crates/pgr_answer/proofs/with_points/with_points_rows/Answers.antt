@@ -2,6 +2,7 @@
 use Rattle.std.proofs.Common.{◌∙◌}
 use Rattle.pgr_answer.specs.Pairs.{IsAsked}
 use Rattle.pgr_answer.proofs.TablesFound.{pairs_among, found_named, shown_table_found, routes_numbered, routes_some}
+use Rattle.pgr_answer.proofs.NetworkLemmas.{is_network}
 use Rattle.pgr_answer.proofs.with_points.with_points_rows.Goals as goal
 
 pub found_for-requires-clause-among : goal.found_for-requires-clause-among
@@ -23,7 +24,7 @@ rows_of_shown_routes-requires-clause-links c = rw c.as_slice-found.ensures.value
 pub returns : goal.returns
 returns c =
     let names = c.in_ok-network.network.names in
-    let ends = c.in_ok-network.ensures.network.ends in
+    let ends = (is_network c.in_ok-network.network).ends in
     let asked = rw (c.as_slice-starts.ensures, c.as_slice-ends.ensures) at c.in_ok-pairs.ensures.exactly in
     let are = rw c.as_slice-pairs.ensures.value at c.in_ok-found.ensures.found in
     let rows = rw c.as_slice-found.ensures.value at c.in_ok-rows.ensures in
