@@ -1,22 +1,20 @@
 -- The row of a record, its sum, and the faults of a record.
-use Rattle.std.proofs.Common.{◌≡◌, ℕ, ◌+◌, ◌<◌, ◌≤◌, Bool, true, false, List, [], ◌∷◌, ◌++◌, length, Option, Some, None, refl, sym, ap, ◌∙◌, arith, eq-eqb, if◌then◌else◌, slice_get, zero, suc, get_or, drop, zero-add, add-one}
+use Rattle.std.proofs.Common.{◌≡◌, ℕ, ◌+◌, ◌<◌, List, [], ◌∷◌, length, Option, Some, None, refl, sym, ap, ◌∙◌, arith, if◌then◌else◌, slice_get, zero, suc, get_or, drop, zero-add, add-one}
 use Rattle.std.proofs.lemmas.List.{length-map}
 use Rattle.std.specs.Prelude.{IsNone, option_and_then}
 use Rattle.std.specs.List.{zip}
-use Rattle.std.proofs.lemmas.Bool.{le-leb, lt-leb, ne_eqb}
-use Rattle.std.proofs.lemmas.List.Sums.{sum_by-append, sum_by-cons}
+use Rattle.std.proofs.lemmas.List.Sums.{sum_by-cons}
 use Rattle.pgr_table.specs.declared.kind.Rule.{Rule}
 use Rattle.pgr_table.specs.declared.found.Found.{Found}
 use Rattle.pgr_table.specs.declared.column.Column.{Column}
-use Rattle.pgr_table.specs.declared.fault.TableFault.TheVariants.{UnevenRecord, BadField, DuplicateId, TooManyRows, CostSum}
 use Rattle.pgr_table.specs.declared.kind.Check.{Check}
 use Rattle.pgr_table.specs.declared.kind.Check.TheVariants.{Free, Distinct, Summed}
 use Rattle.pgr_table.specs.Kinds.{value_of, is_summed}
-use Rattle.pgr_table.specs.Rows.{counted, most_rows, most_elements, greatest}
+use Rattle.pgr_table.specs.Rows.{counted}
 use Rattle.pgr_table.specs.Values.{number_of}
 use Rattle.pgr_table.specs.declared.field_value.FieldValue.{FieldValue}
 use Rattle.pgr_table.specs.Kept.{IsValue, IsRow}
-use Rattle.pgr_table.specs.Judging.{value_at, value_in, bad_column, row_of, rules_of, is_repeat, elements_of, elements_of_row, sum_of, sum_of_row, record_fault, fault_of_record}
+use Rattle.pgr_table.specs.Judging.{value_at, value_in, bad_column, row_of, rules_of, sum_of_row}
 
 -- the value of a column is one that it may have
 value_at-value : (rule : Rule) (fields : List (List ℕ)) (place : Option ℕ) (value : FieldValue) → value_at rule fields place ≡ Some value → IsValue rule value
@@ -90,69 +88,6 @@ pub sum-free : (columns : List Found) (row : List FieldValue) (place : ℕ) (d :
     → next ≡ grown → all ≡ grown + sum_of_row (rules_of (drop place columns)) (drop place row)
     → all ≡ next + sum_of_row (rules_of (drop (place + 1) columns)) (drop (place + 1) row)
 sum-free columns row place d all grown next h e s n a = rw add-one (omega (arith, left-free columns row place d h e s))
-
--- the sum of rows and one more
-pub sum_of-push : (kind : List Rule) (rows : List (List FieldValue)) (row : List FieldValue) → sum_of kind (rows ++ row ∷ []) ≡ sum_of kind rows + sum_of_row kind row
-sum_of-push kind rows row = sum_by-append (sum_of_row kind) rows (row ∷ []) ∙ ap (λ n. sum_of kind rows + n) (zero-add (sum_of_row kind row))
-
--- the elements of rows and one more
-pub elements_of-push : (rows : List (List FieldValue)) (row : List FieldValue) → elements_of (rows ++ row ∷ []) ≡ elements_of rows + elements_of_row row
-elements_of-push rows row = sum_by-append elements_of_row rows (row ∷ []) ∙ ap (λ n. elements_of rows + n) (zero-add (elements_of_row row))
-
--- the fault of a record by its tests
-by_tests : (number : ℕ) (many many' even even' known known' few few' small small' : Bool) (bad bad' : Option Column) → many ≡ many' → even ≡ even' → bad ≡ bad'
-    → known ≡ known' → few ≡ few' → small ≡ small'
-    → record_fault number many even bad known few small ≡ record_fault number many' even' bad' known' few' small'
-by_tests number many many' even even' known known' few few' small small' bad bad' a b c d f e = rw (a, b, c, d, f, e) refl
-
--- the tests that a record passes before its fields are read
-pub record Passes (width : ℕ) (rows : List (List FieldValue)) (fields : List (List ℕ)) : Type 0 where
-  pub few : length rows < most_rows
-  pub even : length fields ≡ width
-
--- the tests that its row passes before the elements of its list are counted
-pub record IsGood (columns : List Found) (rows : List (List FieldValue)) (fields : List (List ℕ)) : Type 0 where
-  pub good : bad_column columns fields ≡ None
-  pub new : is_repeat (rules_of columns) rows (row_of columns fields) ≡ false
-
--- the faults of a record, each with what comes before it
-pub fault-many : (columns : List Found) (width : ℕ) (rows : List (List FieldValue)) (fields : List (List ℕ)) → most_rows ≤ length rows
-    → fault_of_record columns width rows fields ≡ Some (TooManyRows (length rows + 2))
-fault-many columns width rows fields many = by_tests _ _ true _ _ _ _ _ _ _ _ _ _ (le-leb most_rows (length rows) many) refl refl refl refl refl
-
-pub fault-uneven : (columns : List Found) (width : ℕ) (rows : List (List FieldValue)) (fields : List (List ℕ)) → length rows < most_rows → (length fields ≡ width → ⊥)
-    → fault_of_record columns width rows fields ≡ Some (UnevenRecord (length rows + 2))
-fault-uneven columns width rows fields few uneven = by_tests _ _ false _ false _ _ _ _ _ _ _ _ (lt-leb most_rows (length rows) few)
-    (ne_eqb (length fields) width uneven) refl refl refl refl
-
-pub fault-field : (columns : List Found) (width : ℕ) (rows : List (List FieldValue)) (fields : List (List ℕ)) (column : Column) → Passes width rows fields
-    → bad_column columns fields ≡ Some column
-    → fault_of_record columns width rows fields ≡ Some (BadField (length rows + 2) column)
-fault-field columns width rows fields column p bad = by_tests _ _ false _ true _ _ _ _ _ _ _ (Some column) (lt-leb most_rows (length rows) p.few)
-    (eq-eqb (length fields) width p.even) bad refl refl refl
-
-pub fault-known : (columns : List Found) (width : ℕ) (rows : List (List FieldValue)) (fields : List (List ℕ)) → Passes width rows fields
-    → bad_column columns fields ≡ None → is_repeat (rules_of columns) rows (row_of columns fields) ≡ true
-    → fault_of_record columns width rows fields ≡ Some (DuplicateId (length rows + 2))
-fault-known columns width rows fields p good known = by_tests _ _ false _ true _ true _ _ _ _ _ None (lt-leb most_rows (length rows) p.few)
-    (eq-eqb (length fields) width p.even) good known refl refl
-
-pub fault-elements : (columns : List Found) (width : ℕ) (rows : List (List FieldValue)) (fields : List (List ℕ)) → Passes width rows fields → IsGood columns rows fields
-    → most_elements < elements_of (rows ++ row_of columns fields ∷ []) → fault_of_record columns width rows fields ≡ Some (TooManyRows (length rows + 2))
-fault-elements columns width rows fields p good above = by_tests _ _ false _ true _ false _ false _ _ _ None (lt-leb most_rows (length rows) p.few)
-    (eq-eqb (length fields) width p.even) good.good good.new (lt-leb _ most_elements above) refl
-
-pub fault-sum : (columns : List Found) (width : ℕ) (rows : List (List FieldValue)) (fields : List (List ℕ)) → Passes width rows fields → IsGood columns rows fields
-    → elements_of (rows ++ row_of columns fields ∷ []) ≤ most_elements
-    → greatest < sum_of (rules_of columns) (rows ++ row_of columns fields ∷ []) → fault_of_record columns width rows fields ≡ Some (CostSum (length rows + 2))
-fault-sum columns width rows fields p good few above = by_tests _ _ false _ true _ false _ true _ false _ None (lt-leb most_rows (length rows) p.few)
-    (eq-eqb (length fields) width p.even) good.good good.new (le-leb _ most_elements few) (lt-leb _ greatest above)
-
-pub fault-none : (columns : List Found) (width : ℕ) (rows : List (List FieldValue)) (fields : List (List ℕ)) → Passes width rows fields → IsGood columns rows fields
-    → elements_of (rows ++ row_of columns fields ∷ []) ≤ most_elements
-    → sum_of (rules_of columns) (rows ++ row_of columns fields ∷ []) ≤ greatest → fault_of_record columns width rows fields ≡ None
-fault-none columns width rows fields p good few within = by_tests _ _ false _ true _ false _ true _ true _ None (lt-leb most_rows (length rows) p.few)
-    (eq-eqb (length fields) width p.even) good.good good.new (le-leb _ most_elements few) (le-leb _ greatest within)
 
 -- the values that were read make a row of the kind, where no column was bad
 none_from : (o : Option Column) → ((column : Column) → o ≡ Some column → ⊥) → o ≡ None

@@ -23,6 +23,46 @@ above_leb : (x v : ℕ) → v + 1 ≤ x → leb x v ≡ false
 above_leb x v h = grind (arith, nat_tests)
 
 module _ {X : Type 0} (vertex : X → ℕ) (xs : List X) where
+  -- the elements before the place are those of lesser vertices than v, as far as they were looked at
+  pub record HasPassed (v place : ℕ) : Type 0 where
+    pub within : place ≤ length xs
+    pub before : (k : ℕ) (d : X) → k < place → vertex (get_or xs k d) < v
+
+  pub passed_start : (v place : ℕ) → IsBeginning vertex xs v place → HasPassed (v + 1) place
+  passed_start v place here = record { within = here.within; before = λ k d inside. omega (arith, here.before k d inside) }
+
+  pub passed_one : (v place : ℕ) (item : X) → HasPassed v place → place < length xs → item ≡ get_or xs place item → vertex item < v → HasPassed v (place + 1)
+  passed_one v place item passed inside is below = record {
+    within = omega arith;
+    before = λ k d earlier. ⊎_elim (λ less. passed.before k d less) (λ more. at k d (omega arith))
+        (cases_lt k place);
+  }
+    where
+      at : (k : ℕ) (d : X) → k ≡ place → vertex (get_or xs k d) < v
+      at k d same =
+          let item_is : get_or xs k d ≡ item = ap (λ i. get_or xs i d) same ∙ (get_or_default xs place d item inside ∙ sym is) in
+          subst (λ n. n < v) (sym (ap vertex item_is)) below
+
+  -- at the end of the list
+  pub passed_all : (v place : ℕ) → HasPassed v place → length xs ≤ place → IsBeginning vertex xs v place
+  passed_all v place passed past = record { within = passed.within; before = passed.before; after = λ k d from inside. absurd (omega arith) }
+
+  -- at an element of a vertex from v on
+  pub passed_part : (v place : ℕ) (item : X) → IsNonDecreasingBy vertex xs → HasPassed v place → place < length xs → item ≡ get_or xs place item → v ≤ vertex item
+      → IsBeginning vertex xs v place
+  passed_part v place item sorted passed inside is from_v = record {
+    within = passed.within;
+    before = passed.before;
+    after = λ k d from inside_k.
+        let item_is : get_or xs place d ≡ item = get_or_default xs place d item inside ∙ sym is in
+        let same : vertex (get_or xs place d) ≡ vertex item = ap vertex item_is in
+        omega (arith, sorted place k d from inside_k, same);
+  }
+
+  -- the first part begins at the start, and at the size, where each vertex is below it, the list ends
+  pub first_beginning : IsBeginning vertex xs 0 0
+  first_beginning = record { within = omega arith; before = λ k d inside. absurd (omega arith); after = λ k d from inside. omega arith }
+
   -- a part doesn't begin before the one before it
   pub in_order : (v first last : ℕ) → IsBeginning vertex xs v first → IsBeginning vertex xs (v + 1) last → first ≤ last
   in_order v first last low high = ⊎_elim (λ less. absurd (clash less)) (λ more. more) (cases_lt last first)

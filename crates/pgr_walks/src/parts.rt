@@ -1,16 +1,44 @@
-ghost use Rattle.std.specs.Prelude.{◌≡◌, ◌==◌, ◌+◌, ◌<◌, length, filter, slice_index_or};
-ghost use Rattle.pgr_walks.specs.Parts.{IsBeginning};
+ghost use Rattle.std.specs.Prelude.{◌≡◌, ◌==◌, ◌+◌, ◌<◌, length, filter, slice_index_or, IfOk};
+ghost use Rattle.std.specs.List.Sorted.{IsNonDecreasingBy};
+ghost use Rattle.pgr_walks.specs.Parts.{IsBeginning, AreBeginnings};
 
 use crate::packed_link::PackedLink;
 use crate::side::Side;
+use pgr_outside::NoMemory;
+use std::alloc::Global;
 
-/// Links by a vertex, and the places where those of each vertex begin.
-#[derive(Drop)]
-pub(crate) struct Parts {
-    /// The links.
-    pub(crate) links: Vec<PackedLink>,
-    /// The places, and at last the end of the list.
-    pub(crate) places: Vec<usize>,
+/// The place where the links of each vertex below the size begin, and at last the end of the list.
+///
+/// The links stand by vertex. Work, not proved: one pass.
+pub(crate) fn beginnings<S: Side>(
+    alloc: Global,
+    size: u32,
+    links: &[PackedLink],
+) -> Result<Vec<usize>, NoMemory>
+    requires { IsNonDecreasingBy S.vertex links.now }
+    ensures { IfOk result (λ places. AreBeginnings S.vertex size links.now places.items) }
+{
+    let mut places = Vec::with_capacity(alloc, size as usize + 1)?;
+    let mut place = 0;
+    for v in 0..size {
+        places.push(place)?;
+        place = end_of_part::<S>(links, v, place);
+    }
+    places.push(place)?;
+    Ok(places)
+}
+
+/// Where the links of `v` end, which begin at `start`.
+fn end_of_part<S: Side>(links: &[PackedLink], v: u32, start: usize) -> usize
+    requires sorted { IsNonDecreasingBy S.vertex links.now }
+    requires start { IsBeginning S.vertex links.now v start }
+    ensures { IsBeginning S.vertex links.now (v + 1) result }
+{
+    let mut place = start;
+    while place < links.len() && S::vertex(&links[place]) <= v {
+        place += 1;
+    }
+    place
 }
 
 /// The links of `v`.

@@ -11,11 +11,11 @@ ghost use Rattle.pgr_walks.specs.ListGraph.{links_from, links_into, arrival_cmp,
 ghost use Rattle.pgr_walks.specs.Packed.{link_of};
 ghost use Rattle.pgr_walks.specs.Parts.{AreBeginnings};
 
-use crate::distributing::distribute;
+use crate::distributing::in_order;
 use crate::graph::Graph;
 use crate::link::Link;
 use crate::packed_link::{PackedLink, pack};
-use crate::parts::{Parts, part};
+use crate::parts::{beginnings, part};
 use crate::side::{ByEnd, ByStart};
 use crate::visitor::{LinkVisitor, Next};
 use pgr_outside::NoMemory;
@@ -44,8 +44,8 @@ impl RowGraph {
     /// The graph with `size` vertices and exactly these links, which may stand in any order.
     ///
     /// Every end is below the size, and no link stands twice in the list: parallel links of one edge between
-    /// the same ends differ in cost. `NoMemory` may come at any call. Work, not proved: for either list two passes
-    /// over the links, and a sort of the links of each vertex.
+    /// the same ends differ in cost. `NoMemory` may come at any call. Work, not proved: a few passes over the
+    /// links and short sorts, one for each vertex and end; or two sorts, where vertices stand in no order.
     pub fn from_links(alloc: Global, size: u32, links: Vec<Link>) -> Result<RowGraph, NoMemory>
         requires ends { All (HasEndsBelow size) links.items }
         requires once { IsWithoutRepeats links.items }
@@ -54,16 +54,11 @@ impl RowGraph {
     {
         let packed = pack(alloc, &links)?;
         drop(links);
-        let from_start = distribute::<ByStart>(alloc, size, &packed)?;
+        let by_start = in_order::<ByStart>(alloc, size, &packed)?;
         drop(packed);
-        let Parts {
-            links: by_start,
-            places: starts,
-        } = from_start;
-        let Parts {
-            links: by_end,
-            places: ends,
-        } = distribute::<ByEnd>(alloc, size, &by_start)?;
+        let by_end = in_order::<ByEnd>(alloc, size, &by_start)?;
+        let starts = beginnings::<ByStart>(alloc, size, &by_start)?;
+        let ends = beginnings::<ByEnd>(alloc, size, &by_end)?;
         Ok(RowGraph {
             size,
             by_start,
@@ -95,7 +90,8 @@ impl Graph for RowGraph {
 
     ghost use Rattle.pgr_walks.specs.ListGraphLaws.{list_lawful};
 
-    ghost lawful = { λ graph. list_lawful graph.size (map link_of graph.by_start.items) (map link_of graph.by_end.items) graph.ends_below graph.starts_rise graph.ends_rise graph.same };
+    ghost lawful = { λ graph. list_lawful graph.size (map link_of graph.by_start.items) (map link_of graph.by_end.items)
+        graph.ends_below graph.starts_rise graph.ends_rise graph.same };
 }
 
 /// Shows the visitor the links that are kept, in order, up to and with the first at which it answers stop.
