@@ -87,8 +87,8 @@ module _ (size : ℕ) (ins : ℕ → List (LinkOf ℕ)) (lead : LeadToVertices s
     all_numbered rise = record { rise = rise; same = refl; ends = all_within }
 
     -- and the names are the ends of these
-    pub ends_named : IsStrictlyRising int_cmp names → All (IsEndOf (named_links names size ins)) names → AreEnds (named_links names size ins) names
-    ends_named rise ends = record {
+    pub names_are_ends : IsStrictlyRising int_cmp names → All (IsEndOf (named_links names size ins)) names → AreEnds (named_links names size ins) names
+    names_are_ends rise ends = record {
       rise = rise;
       ends = λ id. (λ has. vertex_from id (All-contains (IsEndOf (named_links names size ins)) names id ends has), λ (link, has, at). name_from id link has at);
     }

@@ -1,5 +1,5 @@
 -- Small commands, pairs and tables, computed.
-use Rattle.std.proofs.Common.{◌≡◌, ℕ, List, [], ◌∷◌, refl, ℤ, pos, negsuc, Option, Some, None, inl, inr, arith, map}
+use Rattle.std.proofs.Common.{◌≡◌, ℕ, List, [], ◌∷◌, refl, ℤ, pos, negsuc, Option, Some, inl, inr, arith, map}
 use Rattle.std.specs.Prelude.{codes, length, nat_lt, true}
 use Rattle.pgr_walks.specs.declared.link.LinkOf.{LinkOf}
 use Rattle.pgr_walks.specs.Walk.{IsVertex}

@@ -20,7 +20,7 @@ use Rattle.pgr_numbers.specs.Numbering.{HasExactly}
 use Rattle.pgr_answer.specs.declared.network.Network.{Network}
 use Rattle.pgr_answer.specs.NamedLinks.{all_links, named_links, LeadToVertices, IsEndOf}
 use Rattle.pgr_answer.specs.Networks.{id_links}
-use Rattle.pgr_answer.proofs.AllLinks.{all_exactly, all_numbered, ends_named, end_of}
+use Rattle.pgr_answer.proofs.AllLinks.{all_exactly, all_numbered, names_are_ends, end_of}
 
 -- a set of links fits where one fits that has them
 pub Fits-along : {V : Type 0} (Has More : LinkOf V → Type 0) → ((link : LinkOf V) → Has link → More link) → Fits More → Fits Has
@@ -73,7 +73,7 @@ is_network {meanings = meanings} network =
     let size = meanings.count network.graph in
     let ins = meanings.ins network.graph in
     record {
-      ends = ends_named size ins network.lead network.names network.size_is network.rise network.ends;
+      ends = names_are_ends size ins network.lead network.names network.size_is network.rise network.ends;
       numbers = all_links size ins;
       numbered = all_numbered size ins network.lead network.names network.size_is network.rise;
       exactly = all_exactly size ins network.lead;
@@ -83,8 +83,8 @@ is_network {meanings = meanings} network =
 -- a graph that has exactly the numbered links of some links gives these links between ids
 module _ (links : List (LinkOf ℤ)) (names : List ℤ) (numbers : List (LinkOf ℕ)) (size : ℕ) (ins : ℕ → List (LinkOf ℕ))
     (numbered : AreNumbered names links numbers) (exactly : HasExactly size ins numbers) (lead : LeadToVertices size ins) where
-  pub same_links : (link : LinkOf ℤ) → Contains (named_links names size ins) link ↔ Contains links link
-  same_links link = (
+  pub given_links : (link : LinkOf ℤ) → Contains (named_links names size ins) link ↔ Contains links link
+  given_links link = (
     λ has.
         let number = Contains-from_map (named names) (all_links size ins) link has in
         let listed = (exactly number.0).0 ((all_exactly size ins lead number.0).1 number.1) in
@@ -96,9 +96,9 @@ module _ (links : List (LinkOf ℤ)) (names : List ℤ) (numbers : List (LinkOf 
   )
 
   -- so their ends are ends of these
-  pub same_ends : AreEnds links names → All (IsEndOf (named_links names size ins)) names
-  same_ends ends = All-weaker (Contains names) (IsEndOf (named_links names size ins)) (λ id there. end_of (named_links names size ins) id (moved id ((ends.ends id).0 there)))
+  pub given_ends : AreEnds links names → All (IsEndOf (named_links names size ins)) names
+  given_ends ends = All-weaker (Contains names) (IsEndOf (named_links names size ins)) (λ id there. end_of (named_links names size ins) id (moved id ((ends.ends id).0 there)))
       names (All-contains_itself names)
     where
       moved : (id : ℤ) → IsVertex (Contains links) id → IsVertex (Contains (named_links names size ins)) id
-      moved id (link, has, at) = (link, (same_links link).1 has, at)
+      moved id (link, has, at) = (link, (given_links link).1 has, at)

@@ -1,5 +1,5 @@
 -- A list of pairs of numbers grows by the pairs that are asked for, and once sorted and without repeats it rises.
-use Rattle.std.proofs.Common.{Ordering, Equal, ◌≡◌, ◌≢◌, ℕ, ◌+◌, ◌<◌, ◌⊎◌, ◌↔◌, inl, inr, ⊎_elim, ℤ, pos, List, [], ◌∷◌, ◌++◌, length, get_or, take, Some, slice_get, refl, sym, ap, subst, ◌∙◌, arith, Bool, true, nat_eq, ◌&&◌, rules}
+use Rattle.std.proofs.Common.{Ordering, Equal, ◌≡◌, ◌≢◌, ℕ, ◌+◌, ◌<◌, ◌⊎◌, ◌↔◌, inl, inr, ⊎_elim, ℤ, pos, List, [], ◌∷◌, ◌++◌, length, get_or, take, Some, slice_get, sym, ap, subst, ◌∙◌, arith, Bool, true, nat_eq, ◌&&◌, rules}
 use Rattle.std.specs.List.{Contains, dedup}
 use Rattle.std.specs.Cmp.{IsTotalOrder, IsEquivalence, Equal-is}
 use Rattle.std.specs.Cmp.Rules.{comparing}

@@ -7,8 +7,6 @@ use Rattle.pgr_walks.specs.LinksOf.{LinksOf}
 use Rattle.pgr_reach.specs.declared.reach.Reach.{Reach}
 use Rattle.pgr_reach.specs.Within.{AreWithin}
 use Rattle.pgr_answer.proofs.ReachTables.{roots_more}
-use Rattle.pgr_answer.specs.Networks.{id_links}
-use Rattle.pgr_answer.proofs.NetworkLemmas.{is_network}
 use Rattle.pgr_answer.proofs.driving_distance.reaches_of.Goals as goal
 
 pub within-requires-clause-root : goal.within-requires-clause-root

@@ -6,7 +6,6 @@ use Rattle.pgr_answer.specs.Finding.{Extends}
 use Rattle.pgr_search.specs.FinalLabels.{wanted_known}
 use Rattle.pgr_answer.proofs.FoundLemmas.{extends_more, one_end_pair, starts_among, start_among}
 use Rattle.pgr_answer.specs.Networks.{id_links}
-use Rattle.pgr_answer.proofs.NetworkLemmas.{is_network}
 use Rattle.pgr_answer.proofs.found.find_group.Goals as goal
 
 pub labels_until-requires-clause-bound : goal.labels_until-requires-clause-bound

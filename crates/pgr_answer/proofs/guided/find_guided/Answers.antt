@@ -4,7 +4,6 @@ use Rattle.std.specs.Result.{is_ok}
 use Rattle.pgr_answer.specs.Finding.{start_cmp}
 use Rattle.pgr_answer.proofs.KeptLemmas.{IsWalk-from_one, least_to_one, route_between}
 use Rattle.pgr_answer.proofs.FoundLemmas.{extends_some_by, extends_none_by}
-use Rattle.pgr_answer.specs.Networks.{id_links}
 use Rattle.pgr_answer.proofs.NetworkLemmas.{is_network}
 use Rattle.pgr_answer.proofs.guided.find_guided.Goals as goal
 

@@ -12,7 +12,6 @@ use Rattle.pgr_answer.specs.Finding.{IsPairAmong, start_cmp, AreFound}
 use Rattle.pgr_answer.proofs.NoteLemmas.{no_notes, notes_gain, starts_before}
 use Rattle.pgr_answer.proofs.FoundLemmas.{none_found, rises_front, all_done}
 use Rattle.pgr_answer.proofs.GuidedLemmas.{rises_back, later_starts, none_left}
-use Rattle.pgr_answer.proofs.NetworkLemmas.{is_network}
 use Rattle.pgr_answer.proofs.guided.guided_routes.Goals as goal
 
 pub loop-start-init : goal.loop-start-init

@@ -1,5 +1,5 @@
 -- The lists that are found for the pairs that are asked for are a table of the first K routes over the links of the edges.
-use Rattle.std.proofs.Common.{◌≡◌, ℕ, ◌∙◌}
+use Rattle.std.proofs.Common.{ℕ, ◌∙◌}
 use Rattle.pgr_answer.specs.Pairs.{IsAsked}
 use Rattle.pgr_answer.proofs.TablesFound.{pairs_among}
 use Rattle.pgr_answer.proofs.ClassTables.{links_named}

@@ -1,5 +1,4 @@
-use Rattle.std.proofs.Common.{◌≡◌, ◌++◌, [], ◌∷◌, ℕ, List, true, length, get_or, map, refl, sym, ap, subst, ◌∙◌, rules, arith}
-use Rattle.std.specs.Prelude.{All}
+use Rattle.std.proofs.Common.{◌≡◌, ℕ, List, true, get_or, ◌∙◌, rules}
 use Rattle.std.specs.Result.{is_ok}
 use Rattle.std.specs.Ordering.{nat_cmp}
 use Rattle.std.proofs.lemmas.List.{take_all, get_or_default}
@@ -10,7 +9,6 @@ use Rattle.pgr_walks.specs.LinksOf.{LinksOf}
 use Rattle.pgr_ksp.specs.Routes.{AreFirstK}
 use Rattle.pgr_answer.specs.declared.pair.Pair.{Pair}
 use Rattle.pgr_answer.specs.declared.found.Found.{Found}
-use Rattle.pgr_answer.specs.Finding.{pair_of}
 use Rattle.pgr_answer.proofs.FoundLemmas.{found_rises}
 use Rattle.pgr_answer.proofs.KspFound.{pair_more, routes_moved, routes_rise}
 use Rattle.pgr_answer.proofs.ksp.lists_for.Goals as goal

@@ -1,4 +1,4 @@
-use Rattle.std.proofs.Common.{rules, ◌≡◌, ◌∙◌, ℕ, List, map, ap, w64, arith}
+use Rattle.std.proofs.Common.{rules, ◌∙◌, ℕ, List, map, ap, w64}
 use Rattle.std.proofs.lemmas.Int.{to_z-of_z}
 use mir.Val.{SFits}
 use Rattle.pgr_walks.specs.declared.link.LinkOf.{LinkOf}

@@ -1,8 +1,7 @@
-use Rattle.std.proofs.Common.{◌≡◌, ◌∙◌, rules, w64, arith, map}
-use Rattle.std.specs.Prelude.{flat_map}
+use Rattle.std.proofs.Common.{rules, w64, arith}
 use Rattle.std.proofs.lemmas.Int.{to_z-of_z}
 use mir.Val.{SFits}
-use Rattle.pgr_answer.proofs.KspTables.{list_more, lists_all}
+use Rattle.pgr_answer.proofs.KspTables.{list_more}
 use Rattle.pgr_answer.proofs.ksp_rows.rows_of_lists.Goals as goal
 
 pub loop-found-preserved : goal.loop-found-preserved

@@ -1,7 +1,7 @@
 -- The graph has exactly the numbered links, so it gives the links between ids.
 use Rattle.std.proofs.Common.{◌∙◌}
 use Rattle.pgr_answer.proofs.AllLinks.{all_numbered}
-use Rattle.pgr_answer.proofs.NetworkLemmas.{same_links, same_ends}
+use Rattle.pgr_answer.proofs.NetworkLemmas.{given_links, given_ends}
 use Rattle.pgr_answer.proofs.link_network.network_of_links.Goals as goal
 
 pub from_links-requires-clause-once : goal.from_links-requires-clause-once
@@ -18,10 +18,10 @@ invariant_of-result c =
       rise = numbered.rise;
       size_is = size_is;
       lead = lead;
-      ends = same_ends _ _ _ _ _ numbered exactly lead c.in_ok-names.ensures.ends;
+      ends = given_ends _ _ _ _ _ numbered exactly lead c.in_ok-names.ensures.ends;
       once = (c.numbered_links_fit.ensures.repeats names _ _ (all_numbered _ _ lead names size_is numbered.rise)).1 c.links_lead_to_their_vertices.ensures.once;
       fits = c.graph_of_numbered_links_fits.ensures names _ _ numbered exactly c.requires.fits;
     }
 
 pub returns-clause-links : goal.returns-clause-links
-returns-clause-links c = same_links _ _ _ _ _ c.in_ok-names.ensures.numbered c.in_ok-graph.ensures.links c.links_lead_to_their_vertices.ensures.lead
+returns-clause-links c = given_links _ _ _ _ _ c.in_ok-names.ensures.numbered c.in_ok-graph.ensures.links c.links_lead_to_their_vertices.ensures.lead

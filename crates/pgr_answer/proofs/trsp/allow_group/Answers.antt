@@ -6,7 +6,6 @@ use Rattle.pgr_answer.specs.AllowedRoutes.{IsAllowedRoute, allowed_over}
 use Rattle.pgr_answer.specs.Finding.{ExtendsBy}
 use Rattle.pgr_answer.proofs.FoundLemmas.{extends_more, one_end_pair, starts_among, start_among}
 use Rattle.pgr_answer.specs.Networks.{id_links}
-use Rattle.pgr_answer.proofs.NetworkLemmas.{is_network}
 use Rattle.pgr_answer.proofs.trsp.allow_group.Goals as goal
 
 pub search_allowed-requires-clause-starts : goal.search_allowed-requires-clause-starts
