@@ -161,7 +161,7 @@ class Reference:
 
     def input_tables(self):
         """The input tables: what each is called, and its section."""
-        return re.findall(r"^### (The table of \w+)\n((?:(?!###).*\n)*)", self.sections.get("Input tables", ""), re.M)
+        return re.findall(r"^### (The table of .+)\n((?:(?!###).*\n)*)", self.sections.get("Input tables", ""), re.M)
 
     def kinds(self):
         """The columns of each input table, in order; where a section has a second table of columns, also those of both."""
