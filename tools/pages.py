@@ -258,8 +258,8 @@ def manual_options(words, reference):
     lines, shown = [], {name: shown for names, shown, _ in reference.forms for name in names}
     for name in words.options:
         value = "\\fR|".join("\\f%s%s" % ("I" if part.isupper() else "B", part) for part in shown[name])
-        default, meanings = meaning(reference, name)
-        lines += [".TP", "\\fB\\-\\-%s=%s\\fR" % (name, value), *roff(sentence("; ".join(meanings)))]
+        default, meanings = of_option(reference, name)
+        lines += [".TP", "\\fB\\-\\-%s=%s\\fR" % (name, value), *roff(by_function(meanings))]
         if not default.startswith("needed"):
             lines += roff("The default is %s." % default)
         explained = reference.explained(name)
@@ -272,15 +272,26 @@ def manual_options(words, reference):
     return lines
 
 
-def meaning(reference, name):
-    """The default of an option, and what it means to the functions that have it, each meaning once."""
-    meanings, default = [], ""
+def of_option(reference, name):
+    """The default of an option, and each of its meanings with the functions for which it has this meaning."""
+    meanings, default = {}, ""
     for function in reference.listed():
         for option, default_here, says in reference.options(function):
             if option == name:
                 default = default_here
-                meanings += [says] if says not in meanings else []
+                meanings.setdefault(says, []).append("`%s`" % function)
     return default, meanings
+
+
+def by_function(meanings):
+    """A sentence for each meaning of an option: first the one for most functions, then the others, with the names of theirs."""
+    usual, *others = sorted(meanings, key=lambda says: -len(meanings[says]))
+    return " ".join([sentence(usual), *(sentence("for %s: %s" % (listing(meanings[says]), says)) for says in others)])
+
+
+def listing(names):
+    """Names as a sentence has them: a, b and c."""
+    return " and ".join([", ".join(names[:-1]), names[-1]] if names[1:] else names)
 
 
 def manual_tables(words, reference):
