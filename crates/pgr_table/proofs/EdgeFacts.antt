@@ -1,16 +1,14 @@
 -- Edges and their values.
-use Rattle.std.proofs.Common.{◌≡◌, ◌≤◌, ◌<◌, List, [], ◌∷◌, ◌++◌, length, map, Option, Some, None, refl, sym, ap, arith, length-append, false, ℤ, w64, to_z, of_z}
+use Rattle.std.proofs.Common.{◌≡◌, ◌≤◌, ◌<◌, List, [], ◌∷◌, ◌++◌, length, map, Option, Some, None, refl, sym, ap, arith, length-append, false}
 use Rattle.std.specs.Prelude.{IfSome, IsSome}
 use Rattle.std.specs.List.{list_any}
 use Rattle.std.specs.Ordering.{int_eq}
 use Rattle.std.proofs.lemmas.List.{map-append}
-use Rattle.std.proofs.Math.Facts.{to_z-of_z}
-use mir.Val.{SFits}
 use Rattle.std.proofs.lemmas.List.Elements.{All-push}
 use Rattle.pgr_numerals.specs.Numeral.{id_of, whole_of, whole_or_empty, whole_within}
 use Rattle.pgr_table.specs.declared.row.EdgeRow.{EdgeRow}
 use Rattle.pgr_table.specs.declared.row.Place.{Place}
-use Rattle.pgr_table.specs.declared.edge_table.PlainEdge.{PlainEdge}
+use Rattle.pgr_table.specs.declared.edge_list.PlainEdge.{PlainEdge}
 use Rattle.pgr_table.specs.declared.kind.Rule.{Rule}
 use Rattle.pgr_table.specs.declared.field_value.FieldValue.{FieldValue}
 use Rattle.pgr_table.specs.Kinds.{most_coordinate}
@@ -18,7 +16,6 @@ use Rattle.pgr_table.specs.Rows.{most_rows, greatest}
 use Rattle.pgr_table.specs.Edges.{edge_kind, placed_edge_kind, costs_of, sum_of_costs, HasIds, IsPlace, AreAccepted, edge_of, edge_with, place_of, place_behind, values_of_edge, HasPlaces}
 use Rattle.pgr_table.specs.Kept.{IsRow}
 use Rattle.pgr_table.specs.KeptEdges.{plain_edge_of, edge_row}
-use Rattle.pgr_table.specs.Values.{number_at}
 use Rattle.pgr_table.specs.Judging.{id_of_row, sum_of, sum_of_row}
 use Rattle.pgr_table.proofs.FieldValues.{is-number, is-id, is-coordinate}
 use Rattle.pgr_table.proofs.Keyed.{AreValues, sum_of-rows, distinct-push}
@@ -139,16 +136,13 @@ place_of-none values row = rw (IsRow-length edge_kind values row) refl
 pub place_of-some : (values : List FieldValue) → IsRow placed_edge_kind values → place_of values ≡ Some (place_behind values)
 place_of-some values row = rw (IsRow-length placed_edge_kind values row) refl
 
--- the number in the first column and what is kept of an edge make its row, with the place if the values make one
-pub edge_row-plain : (values read : List FieldValue) (number : ℤ) (edge : PlainEdge) → SFits w64 number → number ≡ number_at read 0 → edge ≡ plain_edge_of read → read ≡ values
-    → IsRow edge_kind values → edge_row (to_z w64 (of_z w64 number)) edge None ≡ edge_of values
-edge_row-plain values read number edge fits first kept same row =
-    rw (to_z-of_z {w = w64} {z = number} fits, first, kept, same) (ap (edge_with values) (sym (place_of-none values row)))
+-- what is kept of an edge makes its row, with the place if the values make one
+pub edge_row-plain : (values read : List FieldValue) (edge : PlainEdge) → edge ≡ plain_edge_of read → read ≡ values → IsRow edge_kind values → edge_row edge None ≡ edge_of values
+edge_row-plain values read edge kept same row = rw (kept, same) (ap (edge_with values) (sym (place_of-none values row)))
 
-pub edge_row-placed : (values read : List FieldValue) (number : ℤ) (edge : PlainEdge) (place : Place) → SFits w64 number → number ≡ number_at read 0 → edge ≡ plain_edge_of read
-    → place ≡ place_behind read → read ≡ values → IsRow placed_edge_kind values → edge_row (to_z w64 (of_z w64 number)) edge (Some place) ≡ edge_of values
-edge_row-placed values read number edge place fits first kept behind same row =
-    rw (to_z-of_z {w = w64} {z = number} fits, first, kept, behind, same) (ap (edge_with values) (sym (place_of-some values row)))
+pub edge_row-placed : (values read : List FieldValue) (edge : PlainEdge) (place : Place) → edge ≡ plain_edge_of read → place ≡ place_behind read → read ≡ values
+    → IsRow placed_edge_kind values → edge_row edge (Some place) ≡ edge_of values
+edge_row-placed values read edge place kept behind same row = rw (kept, behind, same) (ap (edge_with values) (sym (place_of-some values row)))
 
 -- each row has a place, with one more that has one
 pub HasPlaces-push : (rows : List EdgeRow) (row : EdgeRow) (place : Place) → HasPlaces rows → row.place ≡ Some place → HasPlaces (rows ++ row ∷ [])

@@ -1,11 +1,11 @@
 -- Rows under their ids: a look-up by id, and one more row.
-use Rattle.std.proofs.Common.{◌≡◌, ◌≢◌, ℕ, zero, suc, ◌<◌, Bool, true, false, ◌||◌, List, [], ◌∷◌, ◌++◌, length, map, get_or, Option, Some, None, All, refl, sym, ap, ◌∙◌, arith, ℤ, pos, slice_get, option_map, true≢false, if◌then◌else◌}
+use Rattle.std.proofs.Common.{◌≡◌, ◌≢◌, ℕ, zero, suc, ◌<◌, Bool, true, false, ◌||◌, List, [], ◌∷◌, ◌++◌, length, map, Option, Some, None, All, refl, sym, ap, subst, ◌∙◌, arith, ℤ, slice_get, option_map, true≢false, if◌then◌else◌}
 use Rattle.std.specs.Prelude.{IsNone, IfSome, OnOk, Result, Ok, Err, is_some, ◌↔◌, sum_by}
-use Rattle.std.specs.List.{list_any, position}
-use Rattle.std.proofs.lemmas.List.Quantifiers.{position-Some}
+use Rattle.std.specs.List.{list_any}
 use Rattle.std.specs.Map.{lookup, keys_of}
 use Rattle.std.specs.Ordering.{int_eq}
 use Rattle.std.proofs.lemmas.Bool.Decides.{Decides-int_eq}
+use Rattle.std.proofs.lemmas.Option.{slice_get-map}
 use Rattle.std.proofs.lemmas.List.{map-append}
 use Rattle.std.proofs.lemmas.List.Elements.{All-nil, All-cons, All-head, All-tail}
 use Rattle.std.proofs.lemmas.List.Sums.{sum_by-cons}
@@ -21,7 +21,7 @@ use Rattle.pgr_table.specs.Judging.{id_of_row, has_id, is_repeat, sum_of, sum_of
 int_eq-no : (a b : ℤ) → int_eq a b ≡ false → a ≢ b
 int_eq-no a b h e = true≢false (sym ((Decides-int_eq a b).1 e) ∙ h)
 
-int_eq-yes : (a b : ℤ) → int_eq a b ≡ true → a ≡ b
+pub int_eq-yes : (a b : ℤ) → int_eq a b ≡ true → a ≡ b
 int_eq-yes a b h = (Decides-int_eq a b).0 h
 
 -- a look-up finds an id exactly where it is among the keys
@@ -35,7 +35,7 @@ lookup-keys {Row} id (entry ∷ entries) = by (int_eq id entry.0) (lookup-keys i
     by false rest = rest
 
 -- an id that isn't found among some is none of them, and the other way round
-absent-all : (id : ℤ) (ids : List ℤ) → list_any (int_eq id) ids ≡ false → All (λ other. other ≢ id) ids
+pub absent-all : (id : ℤ) (ids : List ℤ) → list_any (int_eq id) ids ≡ false → All (λ other. other ≢ id) ids
 absent-all id [] h = All-nil (λ other. other ≢ id)
 absent-all id (one ∷ ids) h = by (int_eq id one) refl h (absent-all id ids)
   where
@@ -44,7 +44,7 @@ absent-all id (one ∷ ids) h = by (int_eq id one) refl h (absent-all id ids)
     by true e n rest = cc n
     by false e n rest = All-cons (λ other. other ≢ id) one ids (λ q. int_eq-no id one e (sym q)) (rest n)
 
-all-absent : (id : ℤ) (ids : List ℤ) → All (λ other. other ≢ id) ids → list_any (int_eq id) ids ≡ false
+pub all-absent : (id : ℤ) (ids : List ℤ) → All (λ other. other ≢ id) ids → list_any (int_eq id) ids ≡ false
 all-absent id [] h = refl
 all-absent id (one ∷ ids) h =
     by (int_eq id one) refl (All-head (λ other. other ≢ id) one ids h) (all-absent id ids (All-tail (λ other. other ≢ id) one ids h))
@@ -64,39 +64,39 @@ ids-all key id [] h = All-nil (λ other. other ≢ id)
 ids-all key id (row ∷ rows) h = All-cons (λ other. other ≢ id) (key row) (map key rows) (All-head (λ r. key r ≢ id) row rows h)
     (ids-all key id rows (All-tail (λ r. key r ≢ id) row rows h))
 
--- the row at a place whose id is the one that is looked for
-id_at-place : {Row : Type 0} (key : Row → ℤ) (id : ℤ) (rows : List Row) (i : ℕ) → i < length (map key rows) → int_eq id (get_or (map key rows) i (pos 0)) ≡ true
-    → option_map key (slice_get rows i) ≡ Some id
-id_at-place key id [] i below same = absurd (omega arith)
-id_at-place key id (row ∷ rows) zero below same = ap Some (sym (int_eq-yes id (key row) same))
-id_at-place key id (row ∷ rows) (suc i) below same = id_at-place key id rows i (omega arith) same
-
 -- the row at a place
 pub row-at_place : {Row : Type 0} (entries : List (ℤ × Row)) (i : ℕ) (entry : ℤ × Row) → slice_get entries i ≡ Some entry → slice_get (rows_in entries) i ≡ Some entry.1
 row-at_place [] i entry h = cc h
 row-at_place {Row} (first ∷ entries) zero entry h = let same : first ≡ entry = cc h in ap (λ (e : ℤ × Row). Some e.1) same
 row-at_place (first ∷ entries) (suc i) entry h = row-at_place entries i entry h
 
--- what `find` says of the first place with the id, where the keys are the ids of rows
-pub find-found : {Row : Type 0} (key : Row → ℤ) (id : ℤ) (keys : List ℤ) (rows : List Row) (result : Option ℕ) → keys ≡ map key rows
-    → result ≡ position (int_eq id) keys → IfSome result (λ i. option_map key (slice_get rows i) ≡ Some id)
-find-found key id keys rows None under at = tt
-find-found key id keys rows (Some i) under at =
-    let found = position-Some (int_eq id) (map key rows) i (pos 0) (ap (position (int_eq id)) (sym under) ∙ sym at) in
-    id_at-place key id rows i found.0 found.1
-
-pub find-absent : {Row Kept : Type 0} (key : Row → ℤ) (id : ℤ) (entries : List (ℤ × Kept)) (rows : List Row) (result : Option ℕ) → keys_of entries ≡ map key rows
-    → is_some result ≡ is_some (lookup (int_eq id) entries) → IsNone result ↔ All (λ row. key row ≢ id) rows
-find-absent {Row} key id entries rows result under some = by result (some ∙ lookup-keys id entries ∙ ap (list_any (int_eq id)) under)
-  where
-    by : (r : Option ℕ) → is_some r ≡ list_any (int_eq id) (map key rows) → IsNone r ↔ All (λ row. key row ≢ id) rows
-    by None e = (λ none. all-ids key id rows (absent-all id (map key rows) (sym e)), λ others. refl)
-    by (Some i) e = (λ none. cc none, λ others. cc (e ∙ all-absent id (map key rows) (ids-all key id rows others)))
-
 -- some row has the id, where it is among the ids
-list_any-ids : {Row : Type 0} (key : Row → ℤ) (id : ℤ) (rows : List Row) → list_any (int_eq id) (map key rows) ≡ list_any (λ row. int_eq id (key row)) rows
+pub list_any-ids : {Row : Type 0} (key : Row → ℤ) (id : ℤ) (rows : List Row) → list_any (int_eq id) (map key rows) ≡ list_any (λ row. int_eq id (key row)) rows
 list_any-ids key id [] = refl
 list_any-ids key id (row ∷ rows) = rw (list_any-ids key id rows) refl
+
+-- what is found among the ids of rows is found among the rows
+pub find-found : {Row : Type 0} (key : Row → ℤ) (id : ℤ) (ids : List ℤ) (rows : List Row) (result : Option ℕ) → ids ≡ map key rows
+    → IfSome result (λ i. slice_get ids i ≡ Some id) → IfSome result (λ i. option_map key (slice_get rows i) ≡ Some id)
+find-found key id ids rows None under at = tt
+find-found key id ids rows (Some i) under at = sym (slice_get-map key rows i) ∙ ap (λ (these : List ℤ). slice_get these i) (sym under) ∙ at
+
+pub find-absent : {Row : Type 0} (key : Row → ℤ) (id : ℤ) (ids : List ℤ) (rows : List Row) (result : Option ℕ) → ids ≡ map key rows
+    → IsNone result ↔ All (λ other. other ≢ id) ids → IsNone result ↔ All (λ row. key row ≢ id) rows
+find-absent key id ids rows result under none =
+    let P : List ℤ → Type 0 = λ these. All (λ other. other ≢ id) these in
+    (λ absent. all-ids key id rows (subst P under (none.0 absent)), λ others. none.1 (subst P (sym under) (ids-all key id rows others)))
+
+-- some row has an id exactly where the id is found
+pub has-find : {Row : Type 0} (key : Row → ℤ) (id : ℤ) (ids : List ℤ) (rows : List Row) (result : Option ℕ) → ids ≡ map key rows
+    → IsNone result ↔ All (λ other. other ≢ id) ids → is_some result ≡ list_any (λ row. int_eq id (key row)) rows
+has-find {Row} key id ids rows result under none =
+    by result (list_any (int_eq id) ids) refl none ∙ ap (list_any (int_eq id)) under ∙ list_any-ids key id rows
+  where
+    by : (r : Option ℕ) (t : Bool) → list_any (int_eq id) ids ≡ t → IsNone r ↔ All (λ other. other ≢ id) ids → is_some r ≡ list_any (int_eq id) ids
+    by None t e h = sym (all-absent id ids (h.0 refl))
+    by (Some i) true e h = sym e
+    by (Some i) false e h = let gone : IsNone (Some i) = h.1 (absent-all id ids e) in cc gone
 
 -- a look-up finds an id exactly where some row has it
 pub has_id-kept : {Row Kept : Type 0} (key : Row → ℤ) (id : ℤ) (entries : List (ℤ × Kept)) (rows : List Row) → keys_of entries ≡ map key rows

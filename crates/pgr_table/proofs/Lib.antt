@@ -4,6 +4,7 @@ mod PairFacts
 mod PointFacts
 mod RestrictionFacts
 mod Examples
+mod FindingIds
 mod FieldValues
 mod HeaderFacts
 mod JudgingLaws

@@ -7,6 +7,7 @@ ghost use Rattle.pgr_table.specs.KeptEdges.{plain_edge_of, edge_row};
 ghost use Rattle.pgr_table.specs.Rows.{most_rows, greatest};
 
 use crate::column::Column;
+use crate::edge_list::{EdgeList, PlainEdge};
 use crate::fault::TableRefused;
 use crate::field_value::{FieldValue, number_in};
 use crate::growing::Growing;
@@ -14,7 +15,6 @@ use crate::kind::{Check, Grammar, Rule};
 use crate::reading::read_table;
 use crate::row::{EdgeRow, Place};
 use crate::table::Table;
-use indexmap::IndexMap;
 use pgr_outside::NoMemory;
 use std::alloc::Global;
 use std::marker::Model;
@@ -111,43 +111,14 @@ const PLACED_EDGES: [Rule; 9] = [
     },
 ];
 
-/// What is kept of an edge under its id: its ends and its costs, without its place.
-#[derive(Clone, Copy, Debug)]
-struct PlainEdge {
-    /// The vertex where the edge begins.
-    source: i64,
-    /// The vertex where the edge ends.
-    target: i64,
-    /// The cost of the link from source to target, where it isn't negative.
-    cost: i64,
-    /// The cost of the link from target to source, where it isn't negative.
-    reverse_cost: i64,
-}
-
-impl PlainEdge {
-    /// The row of the edge with this id, and with a place if there is one.
-    fn row(&self, id: i64, place: Option<Place>) -> EdgeRow
-        ensures { result ≡ edge_row id self.now place }
-    {
-        EdgeRow {
-            id,
-            source: self.source,
-            target: self.target,
-            cost: self.cost,
-            reverse_cost: self.reverse_cost,
-            place,
-        }
-    }
-}
-
 /// The rows of an edge table that is accepted, in the order of the table, which contracts see as their list.
 ///
 /// No id stands twice, ids and vertices are from 0 to 2^63 - 1, coordinates are from -10^15 to 10^15, there are at most
 /// 4,194,304 rows, and the costs that aren't negative, of both columns, have a sum of at most 2^63 - 1.
 #[derive(Debug, Drop)]
 pub struct EdgeTable {
-    /// The edges under their ids, in the order of the rows.
-    edges: IndexMap<i64, PlainEdge>,
+    /// The edges in the order of the rows, without their places.
+    edges: EdgeList,
     /// The places of the rows in their order, if the table is read with places, else none.
     places: Vec<Place>,
 }
@@ -160,9 +131,9 @@ impl Model for EdgeTable {
 
     ghost Value = { List Row };
 
-    ghost view = { λ table. edge_rows table.edges.entries table.places.items };
+    ghost view = { λ table. edge_rows table.edges table.places.items };
 
-    ghost invariant = { λ table. (length table.places.items ≤ length table.edges.entries) × AreAccepted (edge_rows table.edges.entries table.places.items) };
+    ghost invariant = { λ table. (length table.places.items ≤ length table.edges) × AreAccepted (edge_rows table.edges table.places.items) };
 }
 
 /// The edges that the bytes are, or why they are none.
@@ -181,7 +152,8 @@ impl Model for EdgeTable {
 ///
 /// `Fault` comes exactly where the bytes have one, and is the first: see [`TableFault`](crate::TableFault). No id stands
 /// twice, there are at most 4,194,304 rows, and the costs that aren't negative, of both columns, have a sum of at most
-/// 2^63 - 1. `Memory` may come at any bytes. Work, not proved: a step for each byte, and two look-ups for each row.
+/// 2^63 - 1. `Memory` may come at any bytes. Work, not proved: a step for each byte. As long as each id is above the
+/// one before, a row takes no look-up; from the first that isn't on, each takes two.
 pub fn read_edges(alloc: Global, bytes: &[u8], places: bool) -> Result<EdgeTable, TableRefused>
     ensures verdict { IsVerdict result (judged_edges places bytes.now) }
     ensures places { IsTrue places → IfOk result HasPlaces }
@@ -218,7 +190,7 @@ impl EdgeTable {
         ensures { result ≡ [] }
     {
         EdgeTable {
-            edges: IndexMap::new(alloc),
+            edges: EdgeList::new(alloc),
             places: Vec::new(alloc),
         }
     }
@@ -245,8 +217,7 @@ impl EdgeTable {
         requires { i < length self.now }
         ensures { slice_get self.now i ≡ Some result }
     {
-        let (id, edge) = self.edges.get_index(i).unwrap();
-        edge.row(*id, self.places.get(i).copied())
+        self.edges.get(i).row(self.places.get(i).copied())
     }
 
     /// The place of the row with an id, or none where no row has it.
@@ -254,43 +225,43 @@ impl EdgeTable {
         ensures found { IfSome result (λ i. option_map (λ row. row.id) (slice_get self.now i) ≡ Some id) }
         ensures absent { IsNone result ↔ All (λ row. row.id ≢ id) self.now }
     {
-        self.edges.get_index_of(&id)
+        self.edges.find(id)
     }
 
     /// Whether a row has this id.
     fn has_id(&self, id: i64) -> bool
         ensures { result ≡ list_any (λ row. int_eq id row.id) self.now }
     {
-        self.edges.contains_key(&id)
+        self.edges.find(id).is_some()
     }
 
     /// Puts a row without a place behind the others. Out of memory, the table stays as it was.
-    fn push(&mut self, id: i64, edge: PlainEdge) -> Result<(), NoMemory>
-        requires ids { HasIds (edge_row id edge None) }
-        requires new { list_any (λ one. int_eq id one.id) self.old ≡ false }
+    fn push(&mut self, edge: PlainEdge) -> Result<(), NoMemory>
+        requires ids { HasIds (edge_row edge None) }
+        requires new { list_any (λ one. int_eq edge.id one.id) self.old ≡ false }
         requires few { length self.old < most_rows }
-        requires sum { sum_of_costs (self.old ++ edge_row id edge None ∷ []) ≤ greatest }
-        ensures ok { OnOk result (self.new ≡ self.old ++ edge_row id edge None ∷ []) }
+        requires sum { sum_of_costs (self.old ++ edge_row edge None ∷ []) ≤ greatest }
+        ensures ok { OnOk result (self.new ≡ self.old ++ edge_row edge None ∷ []) }
         ensures err { OnErr result (self.new ≡ self.old) }
     {
-        self.edges.insert(id, edge)?;
+        self.edges.push(edge)?;
         Ok(())
     }
 
     /// Puts a row with a place behind the others, each of which has one. Out of memory, the table stays as it was.
-    fn push_placed(&mut self, id: i64, edge: PlainEdge, place: Place) -> Result<(), NoMemory>
-        requires ids { HasIds (edge_row id edge (Some place)) }
+    fn push_placed(&mut self, edge: PlainEdge, place: Place) -> Result<(), NoMemory>
+        requires ids { HasIds (edge_row edge (Some place)) }
         requires place { IsPlace place }
         requires placed { HasPlaces self.old }
-        requires new { list_any (λ one. int_eq id one.id) self.old ≡ false }
+        requires new { list_any (λ one. int_eq edge.id one.id) self.old ≡ false }
         requires few { length self.old < most_rows }
-        requires sum { sum_of_costs (self.old ++ edge_row id edge (Some place) ∷ []) ≤ greatest }
-        ensures ok { OnOk result (self.new ≡ self.old ++ edge_row id edge (Some place) ∷ []) }
+        requires sum { sum_of_costs (self.old ++ edge_row edge (Some place) ∷ []) ≤ greatest }
+        ensures ok { OnOk result (self.new ≡ self.old ++ edge_row edge (Some place) ∷ []) }
         ensures err { OnErr result (self.new ≡ self.old) }
     {
         self.places.push(place)?;
-        match self.edges.insert(id, edge) {
-            Ok(_) => Ok(()),
+        match self.edges.push(edge) {
+            Ok(()) => Ok(()),
             Err(_) => {
                 self.places.pop();
                 Err(NoMemory)
@@ -328,7 +299,7 @@ impl Growing for EdgeTable {
     }
 
     fn with_room(alloc: Global, expected: usize) -> Result<EdgeTable, NoMemory> {
-        let edges = IndexMap::with_capacity(alloc, expected)?;
+        let edges = EdgeList::with_capacity(alloc, expected)?;
         let places = Vec::new(alloc);
         Ok(EdgeTable { edges, places })
     }
@@ -343,7 +314,7 @@ impl Growing for EdgeTable {
 
     fn add(&mut self, values: &mut Vec<FieldValue>) -> Result<(), NoMemory> {
         let values = values.as_slice();
-        self.push(number_in(values, 0), plain_edge(values))
+        self.push(plain_edge(values))
     }
 }
 
@@ -378,7 +349,7 @@ impl Growing for PlacedEdges {
     }
 
     fn with_room(alloc: Global, expected: usize) -> Result<PlacedEdges, NoMemory> {
-        let edges = IndexMap::with_capacity(alloc, expected)?;
+        let edges = EdgeList::with_capacity(alloc, expected)?;
         let places = Vec::with_capacity(alloc, expected)?;
         let table = EdgeTable { edges, places };
         Ok(PlacedEdges { table })
@@ -394,18 +365,18 @@ impl Growing for PlacedEdges {
 
     fn add(&mut self, values: &mut Vec<FieldValue>) -> Result<(), NoMemory> {
         let values = values.as_slice();
-        self.table
-            .push_placed(number_in(values, 0), plain_edge(values), place(values))?;
+        self.table.push_placed(plain_edge(values), place(values))?;
         Ok(())
     }
 }
 
-/// What is kept of the edge with these values under its id.
+/// What is kept of the edge with these values, but for its place.
 fn plain_edge(values: &[FieldValue]) -> PlainEdge
     requires { 5 ≤ length values.now }
     ensures { result ≡ plain_edge_of values.now }
 {
     PlainEdge {
+        id: number_in(values, 0),
         source: number_in(values, 1),
         target: number_in(values, 2),
         cost: number_in(values, 3),

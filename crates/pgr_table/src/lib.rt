@@ -13,6 +13,7 @@
 
 mod capacity_table;
 mod column;
+mod edge_list;
 mod edge_table;
 mod fault;
 mod field_value;

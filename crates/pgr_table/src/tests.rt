@@ -93,6 +93,71 @@ fn the_first_fault_is_named(rt: HostRuntime) {
     }
 }
 
+#[test]
+fn ids_that_rise_are_found(rt: HostRuntime) -> Result<(), Fail> {
+    let bytes = b"id,source,target,cost\n2,1,2,3\n5,2,3,4\n6,1,3,10\n90,3,4,0\n";
+    let table = read_edges(rt.alloc(), bytes, false)?;
+    assert_eq!(rt; table.len(), 4);
+    assert_eq!(rt; table.row(3), edge(90, 3, 4, 0, -1));
+    assert_eq!(rt; table.find(2), Some(0));
+    assert_eq!(rt; table.find(5), Some(1));
+    assert_eq!(rt; table.find(6), Some(2));
+    assert_eq!(rt; table.find(90), Some(3));
+    assert_eq!(rt; table.find(1), None);
+    assert_eq!(rt; table.find(7), None);
+    assert_eq!(rt; table.find(91), None);
+    Ok(())
+}
+
+#[test]
+fn ids_in_any_order_are_found(rt: HostRuntime) -> Result<(), Fail> {
+    let bytes = b"id,source,target,cost\n3,1,2,3\n9,2,3,4\n1,1,3,10\n7,3,4,0\n";
+    let table = read_edges(rt.alloc(), bytes, false)?;
+    assert_eq!(rt; table.len(), 4);
+    assert_eq!(rt; table.row(2), edge(1, 1, 3, 10, -1));
+    assert_eq!(rt; table.find(3), Some(0));
+    assert_eq!(rt; table.find(9), Some(1));
+    assert_eq!(rt; table.find(1), Some(2));
+    assert_eq!(rt; table.find(7), Some(3));
+    assert_eq!(rt; table.find(2), None);
+    assert_eq!(rt; table.find(10), None);
+    Ok(())
+}
+
+#[test]
+fn an_id_stands_once_whether_ids_rise_or_not(rt: HostRuntime) {
+    let cases: [Case<'_>; 6] = [
+        (
+            b"id,source,target,cost\n2,1,2,3\n5,1,2,3\n5,1,2,3\n",
+            Err(TableFault::DuplicateId(4)),
+        ),
+        (
+            b"id,source,target,cost\n2,1,2,3\n5,1,2,3\n8,1,2,3\n2,1,2,3\n",
+            Err(TableFault::DuplicateId(5)),
+        ),
+        (
+            b"id,source,target,cost\n2,1,2,3\n5,1,2,3\n8,1,2,3\n7,1,2,3\n",
+            Ok(4),
+        ),
+        (
+            b"id,source,target,cost\n5,1,2,3\n2,1,2,3\n2,1,2,3\n",
+            Err(TableFault::DuplicateId(4)),
+        ),
+        (
+            b"id,source,target,cost\n5,1,2,3\n2,1,2,3\n9,1,2,3\n5,1,2,3\n",
+            Err(TableFault::DuplicateId(5)),
+        ),
+        (
+            b"id,source,target,cost\n5,1,2,3\n2,1,2,3\n9,1,2,3\n8,1,2,3\n10,1,2,3\n",
+            Ok(5),
+        ),
+    ];
+    for (bytes, answer) in cases {
+        let rows = read_edges(rt.alloc(), bytes, false).map(|table| table.len());
+        assert_eq!(rt; rows, answer.map_err(TableRefused::Fault));
+    }
+}
+
 // The number of rows of the front of the table with this many bytes, or its fault.
 const fn answer_of_front(end: usize) -> Result<usize, TableFault> {
     match end {

@@ -6,5 +6,5 @@ use Rattle.pgr_table.proofs.edge_table.EdgeTableGrowing.count.Goals as goal
 
 pub returns : goal.returns
 returns c =
-    let rows = length-edge_rows c.self.inside.edges.entries c.self.inside.places.items in
-    rw (← c.self.view_is) (c.len.ensures.len ∙ sym rows ∙ sym (length-map _ values_of_edge))
+    let rows = length-edge_rows c.self.inside.edges c.self.inside.places.items in
+    rw (← c.self.view_is) (c.len.ensures ∙ sym rows ∙ sym (length-map _ values_of_edge))

@@ -1,4 +1,4 @@
-use Rattle.std.proofs.Common.{sym, ap, subst, ◌∙◌, arith, ℤ, ◌++◌, ◌∷◌, [], Option, Some, w64, rules, length, ◌≤◌, ◌≡◌, false, to_z, of_z, refl}
+use Rattle.std.proofs.Common.{sym, ap, subst, ◌∙◌, arith, ℤ, ◌++◌, ◌∷◌, [], Option, Some, length, ◌≤◌, ◌≡◌, false, refl}
 use Rattle.std.specs.Prelude.{IfSome}
 use Rattle.std.specs.List.{list_any}
 use Rattle.std.specs.Ordering.{int_eq}
@@ -13,9 +13,6 @@ use Rattle.pgr_table.proofs.Keyed.{is_repeat-rows, values-push}
 use Rattle.pgr_table.proofs.EdgeFacts.{HasPlaces-push, makes_placed_edge, placed_edge_values, edge_row-placed, sum_of_costs-push, sum_of_row-placed}
 use Rattle.pgr_table.proofs.edge_table.PlacedEdgesGrowing.add.Goals as goal
 
-pub number_in-requires : goal.number_in-requires
-number_in-requires c = omega (arith, ap length c.as_slice-values.ensures.value, IsRow-length placed_edge_kind c.args.values.now.items c.requires.row)
-
 pub plain_edge-requires : goal.plain_edge-requires
 plain_edge-requires c = omega (arith, ap length c.as_slice-values.ensures.value, IsRow-length placed_edge_kind c.args.values.now.items c.requires.row)
 
@@ -24,20 +21,20 @@ place-requires c = omega (arith, ap length c.as_slice-values.ensures.value, IsRo
 
 pub push_placed-requires-clause-ids : goal.push_placed-requires-clause-ids
 push_placed-requires-clause-ids c =
-    let made = edge_row-placed c.args.values.now.items c.as_slice-values.result.now c.number_in.result c.plain_edge.result c.place.result (search rules) c.number_in.ensures
-    c.plain_edge.ensures c.place.ensures c.as_slice-values.ensures.value c.requires.row in
+    let made = edge_row-placed c.args.values.now.items c.as_slice-values.result.now c.plain_edge.result c.place.result c.plain_edge.ensures c.place.ensures
+    c.as_slice-values.ensures.value c.requires.row in
     subst HasIds (sym made) (makes_placed_edge c.args.values.now.items c.requires.row).ids
 
 pub push_placed-requires-clause-place : goal.push_placed-requires-clause-place
 push_placed-requires-clause-place c =
-    let made = edge_row-placed c.args.values.now.items c.as_slice-values.result.now c.number_in.result c.plain_edge.result c.place.result (search rules) c.number_in.ensures
-    c.plain_edge.ensures c.place.ensures c.as_slice-values.ensures.value c.requires.row in
+    let made = edge_row-placed c.args.values.now.items c.as_slice-values.result.now c.plain_edge.result c.place.result c.plain_edge.ensures c.place.ensures
+    c.as_slice-values.ensures.value c.requires.row in
     subst (λ (place : Option Place). IfSome place IsPlace) (sym (ap (λ (row : EdgeRow). row.place) made)) (makes_placed_edge c.args.values.now.items c.requires.row).place
 
 pub push_placed-requires-clause-sum : goal.push_placed-requires-clause-sum
 push_placed-requires-clause-sum c =
-    let made = edge_row-placed c.args.values.now.items c.as_slice-values.result.now c.number_in.result c.plain_edge.result c.place.result (search rules) c.number_in.ensures
-    c.plain_edge.ensures c.place.ensures c.as_slice-values.ensures.value c.requires.row in
+    let made = edge_row-placed c.args.values.now.items c.as_slice-values.result.now c.plain_edge.result c.place.result c.plain_edge.ensures c.place.ensures
+    c.as_slice-values.ensures.value c.requires.row in
     let sum = rw (← c.self.view_is) at c.requires.sum in
     let are = (makes_placed_edge c.args.values.now.items c.requires.row).values_are in
     subst (λ (row : EdgeRow). sum_of_costs (c.self.inside.table ++ row ∷ []) ≤ greatest) (sym made)
@@ -45,8 +42,8 @@ push_placed-requires-clause-sum c =
 
 pub push_placed-requires-clause-new : goal.push_placed-requires-clause-new
 push_placed-requires-clause-new c =
-    let made = edge_row-placed c.args.values.now.items c.as_slice-values.result.now c.number_in.result c.plain_edge.result c.place.result (search rules) c.number_in.ensures
-    c.plain_edge.ensures c.place.ensures c.as_slice-values.ensures.value c.requires.row in
+    let made = edge_row-placed c.args.values.now.items c.as_slice-values.result.now c.plain_edge.result c.place.result c.plain_edge.ensures c.place.ensures
+    c.as_slice-values.ensures.value c.requires.row in
     let new = rw (← c.self.view_is) at c.requires.new in
     let repeat = is_repeat-rows placed_edge_kind values_of_edge (λ (row : EdgeRow). row.id) placed_edge_values c.self.inside.table c.args.values.now.items
     (edge_of c.args.values.now.items).id (makes_placed_edge c.args.values.now.items c.requires.row).id in
@@ -57,13 +54,13 @@ push_placed-requires-clause-few c = rw (← c.self.view_is, length-map c.self.in
 
 pub returns-clause-ok : goal.returns-clause-ok
 returns-clause-ok c =
-    let row = edge_row (to_z w64 (of_z w64 c.number_in.result)) c.plain_edge.result (Some c.place.result) in
-    let made = edge_row-placed c.args.values.now.items c.as_slice-values.result.now c.number_in.result c.plain_edge.result c.place.result (search rules) c.number_in.ensures
-    c.plain_edge.ensures c.place.ensures c.as_slice-values.ensures.value c.requires.row in
+    let row = edge_row c.plain_edge.result (Some c.place.result) in
+    let made = edge_row-placed c.args.values.now.items c.as_slice-values.result.now c.plain_edge.result c.place.result c.plain_edge.ensures c.place.ensures
+    c.as_slice-values.ensures.value c.requires.row in
     rw (← c.self.view_is) (values-push values_of_edge c.self.inside.table c.push_placed.new.self row c.args.values.now.items c.in_ok-push_placed.ensures.ok
     (ap values_of_edge made ∙ (makes_placed_edge c.args.values.now.items c.requires.row).values_are))
 
 pub invariant_of-self-2 : goal.invariant_of-self-2
 invariant_of-self-2 c =
-    let row = edge_row (to_z w64 (of_z w64 c.number_in.result)) c.plain_edge.result (Some c.place.result) in
+    let row = edge_row c.plain_edge.result (Some c.place.result) in
     rw c.in_ok-push_placed.ensures.ok (HasPlaces-push c.self.inside.table row c.place.result c.self.invariant refl)
