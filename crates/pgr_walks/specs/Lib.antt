@@ -15,9 +15,7 @@ pub mod Reversed
 pub mod ReversedLaws
 pub mod Without
 pub mod WithoutLaws
-pub mod Packed
 pub mod Parts
 pub mod Chains
-pub mod RowGraphLaws
 pub mod Ends
 pub mod Reaches

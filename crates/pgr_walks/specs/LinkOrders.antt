@@ -1,10 +1,10 @@
 -- The orders of links are total, and only a link is equal to itself in them.
-use Rattle.std.proofs.Common.{◌≡◌, ℕ, ℤ, refl, sym, ap, ◌∙◌, Ordering, Less, Equal, Greater}
-use Rattle.std.specs.Ordering.{nat_cmp, int_cmp, ordering_then}
-use Rattle.std.specs.Cmp.{IsTotalOrder}
+use Rattle.std.proofs.Common.{◌≡◌, ℕ, ℤ, Bool, refl, sym, ap, ◌∙◌, Ordering, Less, Equal, Greater}
+use Rattle.std.specs.Ordering.{nat_cmp, int_cmp, ordering_then, eq_by_cmp}
+use Rattle.std.specs.Cmp.{IsTotalOrder, IsEquivalence, IsPartialEquivalence, and_per, on_per, and_equiv, on_equiv, nat_eq_equiv, int_eq_equiv, partial_equiv_from_equiv, both_tied, unsigned_ties}
 use Rattle.std.proofs.lemmas.Cmp.{ranked, int_ranked, nat_cmp_total, int_cmp_total, on_total, then_total}
 use Rattle.pgr_walks.specs.declared.link.LinkOf.{LinkOf}
-use Rattle.pgr_walks.specs.Link.{step_cmp, entry_cmp, link_cmp}
+use Rattle.pgr_walks.specs.Link.{step_cmp, entry_cmp, link_cmp, link_eq}
 use Rattle.pgr_walks.specs.ListGraph.{arrival_cmp}
 
 -- equal numbers are the same
@@ -48,6 +48,23 @@ module _ {V : Type 0} (vertex_cmp : V → V → Ordering) (tie : (x y : V) → v
       let second = then_tie (int_cmp a.edge b.edge) (ordering_then (nat_cmp a.cost b.cost) (vertex_cmp a.to b.to)) first.1 in
       let third = then_tie (nat_cmp a.cost b.cost) (vertex_cmp a.to b.to) second.1 in
       same_link a b (tie _ _ first.0) (int_tie _ _ second.0) (nat_tie _ _ third.0) (tie _ _ third.1)
+
+module _ {V : Type 0} {vertex_eq : V → V → Bool} where
+  -- whether two links are the same is symmetric and transitive where that of vertices is
+  pub link_per : IsPartialEquivalence vertex_eq → IsPartialEquivalence (link_eq vertex_eq)
+  link_per vertices = and_per (on_per (λ (link : LinkOf V). link.from) vertices)
+      (and_per (on_per (λ (link : LinkOf V). link.edge) (partial_equiv_from_equiv int_eq_equiv))
+      (and_per (on_per (λ (link : LinkOf V). link.cost) (partial_equiv_from_equiv nat_eq_equiv)) (on_per (λ (link : LinkOf V). link.to) vertices)))
+
+  -- and an equivalence
+  pub link_equiv : IsEquivalence vertex_eq → IsEquivalence (link_eq vertex_eq)
+  link_equiv vertices = and_equiv (on_equiv (λ (link : LinkOf V). link.from) vertices)
+      (and_equiv (on_equiv (λ (link : LinkOf V). link.edge) int_eq_equiv)
+      (and_equiv (on_equiv (λ (link : LinkOf V). link.cost) nat_eq_equiv) (on_equiv (λ (link : LinkOf V). link.to) vertices)))
+
+  -- two links are the same where neither is before the other
+  pub link_ties : (vertex_cmp : V → V → Ordering) → ((x y : V) → vertex_eq x y ≡ eq_by_cmp vertex_cmp x y) → (a b : LinkOf V) → link_eq vertex_eq a b ≡ eq_by_cmp (link_cmp vertex_cmp) a b
+  link_ties vertex_cmp ties a b = both_tied _ _ _ _ (ties a.from b.from) (both_tied _ _ _ _ refl (both_tied _ _ _ _ (unsigned_ties a.cost b.cost) (ties a.to b.to)))
 
 -- the order of all links by where they lead
 pub arrival_total : IsTotalOrder arrival_cmp

@@ -18,7 +18,6 @@ mod label;
 mod laws;
 mod link;
 mod list_graph;
-mod packed_link;
 mod parts;
 mod reversed;
 mod row_graph;

@@ -2,7 +2,7 @@ ghost use Rattle.std.specs.Prelude.{◌≡◌, ◌==◌, ◌+◌, ◌<◌, lengt
 ghost use Rattle.std.specs.List.Sorted.{IsNonDecreasingBy};
 ghost use Rattle.pgr_walks.specs.Parts.{IsBeginning, AreBeginnings};
 
-use crate::packed_link::PackedLink;
+use crate::link::Link;
 use crate::side::Side;
 use pgr_outside::NoMemory;
 use std::alloc::Global;
@@ -13,7 +13,7 @@ use std::alloc::Global;
 pub(crate) fn beginnings<S: Side>(
     alloc: Global,
     size: u32,
-    links: &[PackedLink],
+    links: &[Link],
 ) -> Result<Vec<usize>, NoMemory>
     requires { IsNonDecreasingBy S.vertex links.now }
     ensures { IfOk result (λ places. AreBeginnings S.vertex size links.now places.items) }
@@ -29,7 +29,7 @@ pub(crate) fn beginnings<S: Side>(
 }
 
 /// Where the links of `v` end, which begin at `start`.
-fn end_of_part<S: Side>(links: &[PackedLink], v: u32, start: usize) -> usize
+fn end_of_part<S: Side>(links: &[Link], v: u32, start: usize) -> usize
     requires sorted { IsNonDecreasingBy S.vertex links.now }
     requires start { IsBeginning S.vertex links.now v start }
     ensures { IsBeginning S.vertex links.now (v + 1) result }
@@ -42,11 +42,7 @@ fn end_of_part<S: Side>(links: &[PackedLink], v: u32, start: usize) -> usize
 }
 
 /// The links of `v`.
-pub(crate) fn part<'a, S: Side>(
-    links: &'a [PackedLink],
-    places: &[usize],
-    v: u32,
-) -> &'a [PackedLink]
+pub(crate) fn part<'a, S: Side>(links: &'a [Link], places: &[usize], v: u32) -> &'a [Link]
     requires next { v + 1 < length places.now }
     requires start { IsBeginning S.vertex links.now v (slice_index_or places.now v 0) }
     requires end { IsBeginning S.vertex links.now (v + 1) (slice_index_or places.now (v + 1) 0) }

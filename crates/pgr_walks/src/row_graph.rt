@@ -1,43 +1,40 @@
-ghost use Rattle.std.specs.Prelude.{◌≡◌, ◌≤◌, ◌<◌, ◌↔◌, ℕ, All, Contains, IfOk, map};
+ghost use Rattle.std.specs.Prelude.{◌≡◌, ◌<◌, ◌↔◌, ℕ, All, Contains, IfOk};
 ghost use Rattle.std.specs.Ordering.{nat_cmp};
 ghost use Rattle.pgr_walks.specs.declared.link.LinkOf.{LinkOf};
-ghost use Rattle.pgr_walks.specs.declared.packed_link.PackedLink.{PackedLink};
 ghost use Rattle.pgr_walks.specs.Link.{link_cmp};
 ghost use Rattle.pgr_walks.specs.Walk.{IsWithoutRepeats};
-ghost use Rattle.pgr_walks.specs.Visit.{shown, Admits};
 ghost use Rattle.pgr_walks.specs.Graph.{IsStrictlyRising};
 ghost use Rattle.pgr_walks.specs.LinksOf.{LinksOf};
 ghost use Rattle.pgr_walks.specs.ListGraph.{links_from, links_into, arrival_cmp, HasEndsBelow, HoldTheSame};
-ghost use Rattle.pgr_walks.specs.Packed.{link_of};
 ghost use Rattle.pgr_walks.specs.Parts.{AreBeginnings};
 
 use crate::distributing::in_order;
 use crate::graph::Graph;
 use crate::link::Link;
-use crate::packed_link::{PackedLink, pack};
 use crate::parts::{beginnings, part};
+use crate::showing::show;
 use crate::side::{ByEnd, ByStart};
-use crate::visitor::{LinkVisitor, Next};
+use crate::visitor::LinkVisitor;
 use pgr_outside::NoMemory;
 use std::alloc::Global;
 
 /// A graph that finds the links of a vertex at once.
 ///
-/// It keeps the links by where they begin and by where they lead, in less memory than as links, and for each
-/// vertex the place where its part begins in either list.
+/// It keeps the links by where they begin and by where they lead, and for each vertex the place where its part
+/// begins in either list.
 #[derive(Debug, Drop)]
 pub struct RowGraph {
     size: u32,
-    by_start: Vec<PackedLink>,
+    by_start: Vec<Link>,
     starts: Vec<usize>,
-    by_end: Vec<PackedLink>,
+    by_end: Vec<Link>,
     ends: Vec<usize>,
-    ghost ends_below: { All (HasEndsBelow size) (map link_of by_start.items) },
-    ghost starts_rise: { IsStrictlyRising (link_cmp nat_cmp) (map link_of by_start.items) },
-    ghost ends_rise: { IsStrictlyRising arrival_cmp (map link_of by_end.items) },
-    ghost same: { HoldTheSame (map link_of by_start.items) (map link_of by_end.items) },
-    ghost start_parts: { AreBeginnings (λ (link : PackedLink). link.from) size by_start.items starts.items },
-    ghost end_parts: { AreBeginnings (λ (link : PackedLink). link.to) size by_end.items ends.items },
+    ghost ends_below: { All (HasEndsBelow size) by_start.items },
+    ghost starts_rise: { IsStrictlyRising (link_cmp nat_cmp) by_start.items },
+    ghost ends_rise: { IsStrictlyRising arrival_cmp by_end.items },
+    ghost same: { HoldTheSame by_start.items by_end.items },
+    ghost start_parts: { AreBeginnings (λ (link : LinkOf ℕ). link.from) size by_start.items starts.items },
+    ghost end_parts: { AreBeginnings (λ (link : LinkOf ℕ). link.to) size by_end.items ends.items },
 }
 
 impl RowGraph {
@@ -52,11 +49,9 @@ impl RowGraph {
         ensures size { IfOk result (λ graph. ⟦<RowGraph as Graph>⟧.count graph ≡ size) }
         ensures links { IfOk result (λ graph. (link : LinkOf ℕ) → LinksOf ⟦<RowGraph as Graph>⟧ graph link ↔ Contains links.items link) }
     {
-        let packed = pack(alloc, &links)?;
-        drop(links);
-        let by_start = in_order::<ByStart>(alloc, size, &packed)?;
-        drop(packed);
-        let by_end = in_order::<ByEnd>(alloc, size, &by_start)?;
+        let by_start = in_order::<ByStart>(alloc, size, &links, Vec::new(alloc))?;
+        // The links in the other order take the memory of those handed in: there are two lists in all.
+        let by_end = in_order::<ByEnd>(alloc, size, &by_start, links)?;
         let starts = beginnings::<ByStart>(alloc, size, &by_start)?;
         let ends = beginnings::<ByEnd>(alloc, size, &by_end)?;
         Ok(RowGraph {
@@ -72,37 +67,24 @@ impl RowGraph {
 impl Graph for RowGraph {
     ghost count = { λ graph. graph.size };
 
-    ghost outs = { λ graph v. links_from (map link_of graph.by_start.items) v };
+    ghost outs = { λ graph v. links_from graph.by_start.items v };
 
-    ghost ins = { λ graph v. links_into (map link_of graph.by_end.items) v };
+    ghost ins = { λ graph v. links_into graph.by_end.items v };
 
     fn size(&self) -> u32 {
         self.size
     }
 
     fn each_out<V: LinkVisitor>(&self, v: u32, visitor: &mut V) {
-        show_packed(part::<ByStart>(&self.by_start, &self.starts, v), visitor);
+        show(part::<ByStart>(&self.by_start, &self.starts, v), visitor);
     }
 
     fn each_in<V: LinkVisitor>(&self, v: u32, visitor: &mut V) {
-        show_packed(part::<ByEnd>(&self.by_end, &self.ends, v), visitor);
+        show(part::<ByEnd>(&self.by_end, &self.ends, v), visitor);
     }
 
     ghost use Rattle.pgr_walks.specs.ListGraphLaws.{list_lawful};
 
-    ghost lawful = { λ graph. list_lawful graph.size (map link_of graph.by_start.items) (map link_of graph.by_end.items)
+    ghost lawful = { λ graph. list_lawful graph.size graph.by_start.items graph.by_end.items
         graph.ends_below graph.starts_rise graph.ends_rise graph.same };
-}
-
-/// Shows the visitor the links that are kept, in order, up to and with the first at which it answers stop.
-fn show_packed<V: LinkVisitor>(links: &[PackedLink], visitor: &mut V)
-    requires { Admits V.after V.answer V.ready (V.meaning visitor.old) (map link_of links.now) }
-    ensures { V.meaning visitor.new ≡ shown V.after V.answer (V.meaning visitor.old) (map link_of links.now) }
-{
-    for packed in links {
-        match visitor.see(packed.link()) {
-            Next::Go => {}
-            Next::Stop => return,
-        }
-    }
 }

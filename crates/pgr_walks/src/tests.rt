@@ -125,7 +125,7 @@ fn links_come_in_order_up_to_and_with_the_stop(rt: HostRuntime) -> Result<(), Fa
 }
 
 #[test]
-fn packed_rows_show_each_part_whole(rt: HostRuntime) -> Result<(), Fail> {
+fn rows_show_each_part_whole(rt: HostRuntime) -> Result<(), Fail> {
     let links = vec![in rt.alloc(); ONWARD, LATE, SLOW, BACK, QUICK, LOOP]?;
     let graph = RowGraph::from_links(rt.alloc(), 4, links)?;
     assert_eq!(rt; graph.size(), 4);
