@@ -63,7 +63,8 @@ module _ {V : Type 0} {vertex_eq : V → V → Bool} where
       (and_equiv (on_equiv (λ (link : LinkOf V). link.cost) nat_eq_equiv) (on_equiv (λ (link : LinkOf V). link.to) vertices)))
 
   -- two links are the same where neither is before the other
-  pub link_ties : (vertex_cmp : V → V → Ordering) → ((x y : V) → vertex_eq x y ≡ eq_by_cmp vertex_cmp x y) → (a b : LinkOf V) → link_eq vertex_eq a b ≡ eq_by_cmp (link_cmp vertex_cmp) a b
+  pub link_ties : (vertex_cmp : V → V → Ordering) → ((x y : V) → vertex_eq x y ≡ eq_by_cmp vertex_cmp x y) → (a b : LinkOf V)
+      → link_eq vertex_eq a b ≡ eq_by_cmp (link_cmp vertex_cmp) a b
   link_ties vertex_cmp ties a b = both_tied _ _ _ _ (ties a.from b.from) (both_tied _ _ _ _ refl (both_tied _ _ _ _ (unsigned_ties a.cost b.cost) (ties a.to b.to)))
 
 -- the order of all links by where they lead

@@ -8,6 +8,7 @@ ghost use Rattle.pgr_walks.specs.LinksOf.{LinksOf};
 ghost use Rattle.pgr_walks.specs.ListGraph.{links_from, links_into, arrival_cmp, HasEndsBelow, HoldTheSame};
 ghost use Rattle.pgr_walks.specs.Parts.{AreBeginnings};
 
+use crate::chains::Chains;
 use crate::distributing::in_order;
 use crate::graph::Graph;
 use crate::link::Link;
@@ -49,9 +50,12 @@ impl RowGraph {
         ensures size { IfOk result (λ graph. ⟦<RowGraph as Graph>⟧.count graph ≡ size) }
         ensures links { IfOk result (λ graph. (link : LinkOf ℕ) → LinksOf ⟦<RowGraph as Graph>⟧ graph link ↔ Contains links.items link) }
     {
-        let by_start = in_order::<ByStart>(alloc, size, &links, Vec::new(alloc))?;
+        let mut chains = Chains::new(alloc);
+        let room = Vec::new(alloc);
+        let by_start = in_order::<ByStart>(alloc, size, &links, room, &mut chains)?;
         // The links in the other order take the memory of those handed in: there are two lists in all.
-        let by_end = in_order::<ByEnd>(alloc, size, &by_start, links)?;
+        let by_end = in_order::<ByEnd>(alloc, size, &by_start, links, &mut chains)?;
+        drop(chains);
         let starts = beginnings::<ByStart>(alloc, size, &by_start)?;
         let ends = beginnings::<ByEnd>(alloc, size, &by_end)?;
         Ok(RowGraph {

@@ -5,6 +5,7 @@ ghost use Rattle.pgr_walks.specs.declared.link.LinkOf.{LinkOf};
 
 use super::*;
 use std::alloc::Global;
+use std::mem::size_of;
 use std::test::Fail;
 
 /// Keeps the links that it is shown, and stops at an edge.
@@ -121,6 +122,12 @@ fn links_come_in_order_up_to_and_with_the_stop(rt: HostRuntime) -> Result<(), Fa
     assert_eq!(rt; first.as_slice(), [QUICK].as_slice());
     let into = shown_in(rt.alloc(), &graph, 1, 4);
     assert_eq!(rt; into.as_slice(), [QUICK, BACK, SLOW, LOOP].as_slice());
+    Ok(())
+}
+
+#[test]
+fn a_link_between_numbers_takes_24_bytes(rt: HostRuntime) -> Result<(), Fail> {
+    assert_eq!(rt; size_of::<Link>(), 24);
     Ok(())
 }
 

@@ -57,7 +57,8 @@ invariant_of-result c =
     c.in_ok-by_end.ensures.permutation in
     record {
       ends_below = All-permutation (HasEndsBelow c.args.size) links by_start moved.to_start c.requires.ends;
-      starts_rise = rising_from_permutation (link_total nat_cmp nat_cmp_total) (link_tie nat_cmp nat_tie) links by_start c.requires.once moved.to_start c.in_ok-by_start.ensures.sorted;
+      starts_rise = rising_from_permutation (link_total nat_cmp nat_cmp_total) (link_tie nat_cmp nat_tie) links by_start c.requires.once moved.to_start
+          c.in_ok-by_start.ensures.sorted;
       ends_rise = rising_from_permutation arrival_total arrival_tie links by_end c.requires.once moved.to_end c.in_ok-by_end.ensures.sorted;
       same = same_from_permutations links by_start by_end moved.to_start moved.to_end;
       start_parts = subst (λ xs. AreBeginnings (λ (link : LinkOf ℕ). link.from) c.args.size xs c.in_ok-starts.starts.items) c.deref-3.ensures.value c.in_ok-starts.ensures;
