@@ -1,5 +1,10 @@
-ghost use Rattle.std.specs.Prelude.{◌≡◌, ◌+◌, ◌*◌, ◌-◌, ◌&&◌, nat_le, if◌then◌else◌};
+ghost use Rattle.std.specs.Prelude.{◌≡◌, ◌+◌, ◌*◌, ◌-◌, ◌<◌, ◌≤◌, ◌&&◌, length, nat_le, if◌then◌else◌};
+ghost use Rattle.std.specs.List.{list_all};
+ghost use Rattle.std.specs.Str.Parse.{digits_value};
 ghost use Rattle.pgr_numerals.specs.Numeral.{is_digit, digits_up_to, i64_of, id_of, positive_of};
+
+/// How many digits always fit: the number that eighteen of them write is below 10^18, and so below 2^63.
+const FITTING_DIGITS: usize = 18;
 
 /// The number that the bytes write in decimal digits, or none where it is above `most`.
 ///
@@ -11,9 +16,12 @@ pub fn read_digits(bytes: &[u8], most: u64) -> Option<u64>
     if bytes.is_empty() {
         return None;
     }
-    let mut value = 0;
-    for byte in bytes {
-        value = with_digit(value, *byte, most)?;
+    if bytes.len() > FITTING_DIGITS {
+        return read_long(bytes, most);
+    }
+    let value = read_short(bytes)?;
+    if value > most {
+        return None;
     }
     Some(value)
 }
@@ -56,6 +64,37 @@ pub fn read_positive(bytes: &[u8]) -> Option<i64>
     i64::try_from(id).ok()
 }
 
+/// The number that at most [`FITTING_DIGITS`] bytes write in decimal digits. No bytes are 0.
+///
+/// No step is checked, since k digits write a number below 10^k.
+fn read_short(bytes: &[u8]) -> Option<u64>
+    requires { length bytes.now ≤ 18 }
+    ensures { result ≡ (if list_all is_digit bytes.now then Some (digits_value 10 bytes.now) else None) }
+{
+    let mut value = 0;
+    for byte in bytes {
+        if !byte.is_ascii_digit() {
+            return None;
+        }
+        value = value * 10 + u64::from(byte - b'0');
+    }
+    Some(value)
+}
+
+/// The number that the bytes write in decimal digits, however many but at least one, or none where it is above `most`.
+///
+/// Each step is checked, and it ends at the first number above `most`.
+fn read_long(bytes: &[u8], most: u64) -> Option<u64>
+    requires { 0 < length bytes.now }
+    ensures { result ≡ digits_up_to most bytes.now }
+{
+    let mut value = 0;
+    for byte in bytes {
+        value = with_digit(value, *byte, most)?;
+    }
+    Some(value)
+}
+
 /// The number with one more digit behind it, or none where the byte is no digit or the number is above `most`.
 fn with_digit(value: u64, byte: u8, most: u64) -> Option<u64>
     ensures { let grown = value * 10 + (byte - 48) in
@@ -84,6 +123,65 @@ mod tests {
             Some(u64::MAX)
         );
         assert_eq!(rt; read_digits(b"18446744073709551616", u64::MAX), None);
+    }
+
+    #[test]
+    fn digits_are_read_alike_however_many_they_are(rt: HostRuntime) {
+        for (bytes, most, number) in [
+            (
+                b"999999999999999999".as_slice(),
+                u64::MAX,
+                Some(999999999999999999),
+            ),
+            (
+                b"999999999999999999",
+                999999999999999999,
+                Some(999999999999999999),
+            ),
+            (b"999999999999999999", 999999999999999998, None),
+            (b"1000000000000000000", u64::MAX, Some(1000000000000000000)),
+            (b"1000000000000000000", 999999999999999999, None),
+            (b"9999999999999999999", u64::MAX, Some(9999999999999999999)),
+            (b"9999999999999999999", 9999999999999999998, None),
+            (
+                b"10000000000000000000",
+                u64::MAX,
+                Some(10000000000000000000),
+            ),
+            (b"10000000000000000000", 9999999999999999999, None),
+            (b"99999999999999999999", u64::MAX, None),
+            (b"000000000000000042", 42, Some(42)),
+            (b"000000000000000043", 42, None),
+            (b"0000000000000000042", 42, Some(42)),
+            (b"0000000000000000043", 42, None),
+            (b"0000000000000000000000000000042", 42, Some(42)),
+            (b"0000000000000000000000000000043", 42, None),
+            (b"", u64::MAX, None),
+        ] {
+            assert_eq!(rt; read_digits(bytes, most), number);
+        }
+    }
+
+    #[test]
+    fn a_byte_that_is_no_digit_may_stand_nowhere(rt: HostRuntime) {
+        for bytes in [
+            b"/".as_slice(),
+            b":",
+            b"/12",
+            b"1/2",
+            b"12/",
+            b":12",
+            b"1:2",
+            b"12:",
+            b"x00000000000000042",
+            b"00000000x000000042",
+            b"00000000000000004x",
+            b"x000000000000000042",
+            b"000000000x000000042",
+            b"000000000000000004x",
+        ] {
+            assert_eq!(rt; read_digits(bytes, u64::MAX), None);
+        }
     }
 
     #[test]

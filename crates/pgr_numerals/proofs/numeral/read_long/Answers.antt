@@ -1,6 +1,6 @@
 use Rattle.std.proofs.Common.{◌∙◌, sym}
 use Rattle.pgr_numerals.proofs.Digits.{more, none}
-use Rattle.pgr_numerals.proofs.numeral.read_digits.Goals as goal
+use Rattle.pgr_numerals.proofs.numeral.read_long.Goals as goal
 
 pub returns-in_err-value : goal.returns-in_err-value
 returns-in_err-value c =
