@@ -81,7 +81,7 @@ more most value next bytes i h wrote e =
     }
 
 -- both of two tests
-both : (a b : Bool) → (a && b) ≡ true → (a ≡ true) × (b ≡ true)
+pub both : (a b : Bool) → (a && b) ≡ true → (a ≡ true) × (b ≡ true)
 both true true e = (refl, refl)
 both true false e = cc
 both false true e = cc
@@ -129,3 +129,11 @@ none most value bytes i h wrote e = elim (stopped most value (get_or bytes i 0) 
 pub all : (most value : ℕ) (bytes : List ℕ) → 0 < length bytes → Wrote most bytes value → digits_up_to most bytes ≡ Some value
 all most value [] h wrote = absurd (omega arith)
 all most value (byte ∷ bytes) h wrote = rw (wrote.writes.digits, ← wrote.writes.value_is, le-leb value most wrote.within) refl
+
+-- where digits up to a limit are read, all bytes are digits
+pub are_digits : (most value : ℕ) (bytes : List ℕ) → digits_up_to most bytes ≡ Some value → list_all is_digit bytes ≡ true
+are_digits most value bytes e = by (list_all is_digit bytes) refl
+  where
+    by : (d : Bool) → list_all is_digit bytes ≡ d → d ≡ true
+    by true is = refl
+    by false is = let none = refused most bytes (inl is) in cc

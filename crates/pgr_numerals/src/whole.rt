@@ -12,9 +12,11 @@ use crate::numeral::read_i64;
 pub fn read_whole(bytes: &[u8]) -> Option<i64>
     ensures { result ≡ whole_of bytes.now }
 {
-    let Some(stop) = full_stop(bytes) else {
-        return read_i64(bytes);
-    };
+    // What reads as a number has no full stop, so the bytes of most are gone over once.
+    if let Some(number) = read_i64(bytes) {
+        return Some(number);
+    }
+    let stop = full_stop(bytes)?;
     if !are_only_zeros(&bytes[stop + 1..]) {
         return None;
     }
@@ -78,6 +80,15 @@ mod tests {
             (b".0", None),
             (b"7.5", None),
             (b"7.0.0", None),
+            (b"7.0x", None),
+            (b"7x", None),
+            (b"-", None),
+            (b"-.0", None),
+            (b"", None),
+            (b"9223372036854775807.0", Some(i64::MAX)),
+            (b"9223372036854775808", None),
+            (b"9223372036854775808.0", None),
+            (b"0000000000000000000000000000042.0", Some(42)),
         ] {
             assert_eq!(rt; read_whole(bytes), number);
         }
