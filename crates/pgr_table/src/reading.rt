@@ -12,6 +12,9 @@ use std::alloc::Global;
 /// The bytes of a short row of four numbers, with its line feed.
 const LEAST_BYTES: usize = 8;
 
+/// How many bytes are looked at for their line feeds.
+const PART_BYTES: usize = 65_536;
+
 /// The table of a kind that the bytes are, or why they are none.
 pub(crate) fn read_table<T: Growing>(alloc: Global, bytes: &[u8]) -> Result<T, TableRefused>
     ensures { IsVerdictSeen T.rows result (judged T.kind bytes.now) }
@@ -40,10 +43,14 @@ pub(crate) fn read_table<T: Growing>(alloc: Global, bytes: &[u8]) -> Result<T, T
     Ok(table)
 }
 
-/// How many rows the bytes are likely to have: their line feeds, but no more than there is room for in the bytes and in a table.
+/// How many rows the bytes are likely to have: as many as line feeds, if the whole is like the part in the middle, but no more
+/// than there is room for in the bytes and in a table.
 ///
 /// It only decides how much memory is taken at once.
 fn rows_expected(bytes: &[u8]) -> usize {
-    let lines = bytes.iter().filter(|byte| **byte == b'\n').count();
-    lines.min(bytes.len() / LEAST_BYTES).min(MOST_ROWS)
+    let start = bytes.len().saturating_sub(PART_BYTES) / 2;
+    let part = &bytes[start..start + bytes.len().min(PART_BYTES)];
+    let lines = part.iter().filter(|byte| **byte == b'\n').count();
+    let expected = lines.saturating_mul(bytes.len() / PART_BYTES + 1);
+    expected.min(bytes.len() / LEAST_BYTES).min(MOST_ROWS)
 }
