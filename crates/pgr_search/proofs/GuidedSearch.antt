@@ -16,12 +16,12 @@ use Rattle.pgr_walks.specs.Visit.{shown, Admits}
 use Rattle.pgr_walks.specs.Label.{AtMost, IsLeastLabel, IsLabel, beyond}
 use Rattle.pgr_walks.specs.Graph.{IsLinkOf, IsLawful, Fits, greatest}
 use Rattle.pgr_search.specs.declared.guiding.Key.{Key}
-use Rattle.pgr_search.specs.declared.tournament.Waiting.{Waiting}
+use Rattle.pgr_search.specs.declared.heap.Waiting.{Waiting}
 use Rattle.pgr_search.specs.Estimates.{IsConsistent, keyed, NoneBeyond}
 use Rattle.pgr_search.specs.FinalLabels.{label_at, HoldsFinalLabels, HoldsLabelsFrom}
 use Rattle.pgr_search.specs.Guiding.{key_cmp, label_of_key, key_beyond, guided, all_guided, Guidance, guidance_after, CanGuide, IsGuided, StartsGuided}
 use Rattle.pgr_search.specs.Start.{empty_label}
-use Rattle.pgr_search.specs.Tournament.{is_before, key_at, lowered, IsLeast}
+use Rattle.pgr_search.specs.Heap.{is_before, key_at, lowered, IsLeast}
 use Rattle.pgr_search.proofs.LabelOrder.{AtMost-refl, AtMost-trans, less, not_less}
 use Rattle.pgr_search.proofs.LabelSetting.{IsOffered, IsSearch, IsNext, IsRelaxed, search_begins, one_more_settled, settled_before, all_settled, next_is_least}
 use Rattle.pgr_search.proofs.Listing.{no_label}
@@ -481,6 +481,38 @@ StartsGuidedUpTo-more values targets keys n lt below s = record {
         (subst (λ x. Contains targets x) (sym same) (Contains-get_or targets n 0 lt), subst (λ x. key ≡ record { cost = values x; hops = 0 }) (sym same) (sym is))
     other v key e (inr differ) =
         s.others v key (sym (get_or-set_other keys (get_or targets n 0) v (Some (record { cost = values (get_or targets n 0); hops = 0 })) None differ) ∙ e)
+
+-- one target more, whose key is lowered
+module _ (values : ℕ → ℕ) (targets : List ℕ) (keys : List (Option Key)) (n : ℕ) (lt : n < length targets) (below : get_or targets n 0 < length keys)
+    (s : StartsGuidedUpTo values targets keys n) where
+  abbrev first_key : Key
+  first_key = record { cost = values (get_or targets n 0); hops = 0 }
+
+  marked_before : is_before key_cmp (Some first_key) (key_at keys (get_or targets n 0)) ≡ false → (o : Option Key) → key_at keys (get_or targets n 0) ≡ o
+      → key_at keys (get_or targets n 0) ≡ Some first_key
+  marked_before e None f = let clash : true ≡ false = sym (λ i. is_before key_cmp (Some first_key) (f i)) ∙ e in cc
+  marked_before e (Some key) f = f ∙ ap (λ (k : Key). Some k) (s.others (get_or targets n 0) key f).1
+
+  lowered_more : (b : Bool) → is_before key_cmp (Some first_key) (key_at keys (get_or targets n 0)) ≡ b
+      → StartsGuidedUpTo values targets (cond b (set keys (get_or targets n 0) (Some first_key)) keys) (n + 1)
+  lowered_more true e = StartsGuidedUpTo-more values targets keys n lt below s
+  lowered_more false e = record { marked = λ k h. mark k h (cases_eq k n); others = s.others }
+    where
+      mark : (k : ℕ) → k < n + 1 → (k ≡ n) ⊎ (k ≡ n → ⊥) → key_at keys (get_or targets k 0) ≡ Some (record { cost = values (get_or targets k 0); hops = 0 })
+      mark k h (inl same) =
+          subst (λ m. key_at keys (get_or targets m 0) ≡ Some (record { cost = values (get_or targets m 0); hops = 0 })) (sym same)
+          (marked_before e (key_at keys (get_or targets n 0)) refl)
+      mark k h (inr differ) = s.marked k (omega arith)
+
+  lowered_size : (b : Bool) → length (cond b (set keys (get_or targets n 0) (Some first_key)) keys) ≡ length keys
+  lowered_size true = length-set keys (get_or targets n 0) (Some first_key)
+  lowered_size false = refl
+
+  pub StartsGuidedUpTo-lower : StartsGuidedUpTo values targets (lowered key_cmp keys (get_or targets n 0) first_key) (n + 1)
+  StartsGuidedUpTo-lower = lowered_more (is_before key_cmp (Some first_key) (key_at keys (get_or targets n 0))) refl
+
+  pub length-lower : length (lowered key_cmp keys (get_or targets n 0) first_key) ≡ length keys
+  length-lower = lowered_size (is_before key_cmp (Some first_key) (key_at keys (get_or targets n 0)))
 
 pub StartsGuided-from_all : (values : ℕ → ℕ) (targets : List ℕ) (keys : List (Option Key)) → StartsGuidedUpTo values targets keys (length targets)
     → StartsGuided values targets keys

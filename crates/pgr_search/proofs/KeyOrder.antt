@@ -1,10 +1,10 @@
--- The order of keys, where no key comes after every key, and who wins a match.
-use Rattle.std.proofs.Common.{◌≡◌, ℕ, Bool, true, false, cond, List, Option, Some, None, ◌⊎◌, inl, inr, refl, sym, ap, ◌∙◌, Ordering, Less, Equal, Greater}
+-- The order of keys, where no key comes after every key.
+use Rattle.std.proofs.Common.{◌≡◌, true, false, Option, Some, None, refl, sym, ap, ◌∙◌, Ordering, Less, Equal, Greater}
 use Rattle.std.proofs.lemmas.Bool.{false≢true}
 use Rattle.std.specs.Ordering.{is_lt, ordering_reverse}
 use Rattle.std.specs.Cmp.{IsTotalOrder}
 use Rattle.std.proofs.lemmas.Cmp.{tied_itself}
-use Rattle.pgr_search.specs.Tournament.{is_before, key_at, winner}
+use Rattle.pgr_search.specs.Heap.{is_before}
 
 module _ {K : Type 0} (cmp : K → K → Ordering) (total : IsTotalOrder cmp) where
   -- no key is before itself
@@ -39,26 +39,6 @@ module _ {K : Type 0} (cmp : K → K → Ordering) (total : IsTotalOrder cmp) wh
   not_before-trans (Some a) (Some b) None e f = absurd (false≢true (sym f))
   not_before-trans (Some a) (Some b) (Some c) e f = keys_trans a b c (cmp a b) refl e f (cmp a c) refl
 
-  module _ (keys : List (Option K)) (first second : ℕ) where
-    -- neither key is before that of the winner
-    pub first_not_before : is_before cmp (key_at keys first) (key_at keys (winner cmp keys first second)) ≡ false
-    first_not_before = at (is_before cmp (key_at keys second) (key_at keys first)) refl
-      where
-        at : (b : Bool) → is_before cmp (key_at keys second) (key_at keys first) ≡ b → is_before cmp (key_at keys first) (key_at keys (cond b second first)) ≡ false
-        at true e = one_before (key_at keys second) (key_at keys first) e
-        at false e = before_itself (key_at keys first)
-
-    pub second_not_before : is_before cmp (key_at keys second) (key_at keys (winner cmp keys first second)) ≡ false
-    second_not_before = at (is_before cmp (key_at keys second) (key_at keys first)) refl
-      where
-        at : (b : Bool) → is_before cmp (key_at keys second) (key_at keys first) ≡ b → is_before cmp (key_at keys second) (key_at keys (cond b second first)) ≡ false
-        at true e = before_itself (key_at keys second)
-        at false e = e
-
--- the winner is one of the two
-pub winner_is : {K : Type 0} (cmp : K → K → Ordering) (keys : List (Option K)) (first second : ℕ) → (winner cmp keys first second ≡ first) ⊎ (winner cmp keys first second ≡ second)
-winner_is cmp keys first second = at (is_before cmp (key_at keys second) (key_at keys first))
-  where
-    at : (b : Bool) → (cond b second first ≡ first) ⊎ (cond b second first ≡ second)
-    at true = inr refl
-    at false = inl refl
+  -- keys that equal two others are as these
+  pub not_before_at : (a b c d : Option K) → a ≡ c → b ≡ d → is_before cmp c d ≡ false → is_before cmp a b ≡ false
+  not_before_at a b c d e f h = (λ i. is_before cmp (e i) (f i)) ∙ h

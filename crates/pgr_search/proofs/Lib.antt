@@ -1,6 +1,11 @@
 pub mod KeyOrder
 pub mod Listing
-pub mod Matches
+pub mod Entries
+pub mod HeapOrder
+pub mod HeapPlaces
+pub mod HeapChanges
+pub mod HeapSifting
+pub mod HeapUse
 pub mod LabelOrder
 pub mod LabelSetting
 pub mod Relaxed

@@ -8,7 +8,7 @@ use Rattle.pgr_walks.specs.declared.link.LinkOf.{LinkOf}
 use Rattle.pgr_walks.specs.declared.label.Label.{Label}
 use Rattle.pgr_walks.specs.Label.{AtMost, beyond}
 use Rattle.pgr_search.specs.FinalLabels.{label_at}
-use Rattle.pgr_search.specs.Tournament.{is_before, key_at, lowered}
+use Rattle.pgr_search.specs.Heap.{is_before, key_at, lowered}
 use Rattle.pgr_search.specs.Relaxing.{label_cmp, relaxed, all_relaxed}
 use Rattle.pgr_search.proofs.LabelOrder.{AtMost-refl, AtMost-trans, less, not_less}
 use Rattle.pgr_search.proofs.LabelSetting.{IsOffered, IsRelaxed}

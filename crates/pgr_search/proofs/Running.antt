@@ -13,11 +13,11 @@ use Rattle.pgr_walks.specs.Label.{AtMost, LeadsTo, IsLeastLabel, IsLabel, label_
 use Rattle.pgr_walks.specs.Graph.{IsLinkOf, IsLawful, Fits, greatest}
 use Rattle.pgr_search.specs.declared.bound.Bound.{Bound}
 use Rattle.pgr_search.specs.declared.bound.Bound.TheVariants.{Everywhere, Wanted, Limit}
-use Rattle.pgr_search.specs.declared.tournament.Waiting.{Waiting}
+use Rattle.pgr_search.specs.declared.heap.Waiting.{Waiting}
 use Rattle.pgr_search.specs.FinalLabels.{label_at, HoldsLabelsUpTo, MeetsBound}
 use Rattle.pgr_search.specs.Relaxing.{label_cmp, all_relaxed, CanRelax}
 use Rattle.pgr_search.specs.Start.{StartsAt}
-use Rattle.pgr_search.specs.Tournament.{IsLeast}
+use Rattle.pgr_search.specs.Heap.{IsLeast}
 use Rattle.pgr_search.specs.Turn.{HasReached, IsBefore, IsOver}
 use Rattle.pgr_search.proofs.LabelOrder.{AtMost-refl, AtMost-trans, not_less}
 use Rattle.pgr_search.specs.Estimates.{keyed}

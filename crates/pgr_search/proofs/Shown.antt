@@ -11,7 +11,7 @@ use Rattle.pgr_walks.specs.declared.visitor.Next.TheVariants.{Go}
 use Rattle.pgr_walks.specs.Label.{beyond}
 use Rattle.pgr_walks.specs.Visit.{shown, Admits}
 use Rattle.pgr_search.specs.FinalLabels.{label_at}
-use Rattle.pgr_search.specs.Tournament.{is_before, key_at, lowered}
+use Rattle.pgr_search.specs.Heap.{is_before, key_at, lowered}
 use Rattle.pgr_search.specs.Relaxing.{Relaxation, relaxation_after, label_cmp, relaxed, all_relaxed, CanRelax, IsReady}
 
 -- it never stops

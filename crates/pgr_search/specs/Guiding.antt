@@ -8,7 +8,7 @@ use Rattle.pgr_walks.specs.declared.link.LinkOf.{LinkOf}
 use Rattle.pgr_walks.specs.declared.label.Label.{Label}
 use Rattle.pgr_search.specs.declared.guiding.Key.{Key}
 use Rattle.pgr_search.specs.FinalLabels.{label_at}
-use Rattle.pgr_search.specs.Tournament.{key_at, lowered}
+use Rattle.pgr_search.specs.Heap.{key_at, lowered}
 
 -- the order of keys: by cost and estimate, then by hops
 abbrev pub key_cmp : Key → Key → Ordering

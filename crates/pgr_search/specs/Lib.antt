@@ -2,7 +2,7 @@ pub mod FinalLabels
 pub mod Relaxing
 pub mod Settled
 pub mod Start
-pub mod Tournament
+pub mod Heap
 pub mod Turn
 pub mod ThreeVertices
 pub mod Seeking

@@ -8,7 +8,7 @@ use Rattle.pgr_walks.specs.declared.link.LinkOf.{LinkOf}
 use Rattle.pgr_walks.specs.declared.label.Label.{Label}
 use Rattle.pgr_walks.specs.Label.{beyond}
 use Rattle.pgr_search.specs.FinalLabels.{label_at}
-use Rattle.pgr_search.specs.Tournament.{lowered}
+use Rattle.pgr_search.specs.Heap.{lowered}
 
 -- the order of labels: by cost, then by hops
 abbrev pub label_cmp : Label → Label → Ordering

@@ -7,9 +7,9 @@ ghost use Rattle.pgr_search.specs.Guiding.{CanGuide, StartsGuided, all_guided, l
 
 use crate::estimate::Estimate;
 use crate::guiding::{Guiding, Key};
+use crate::heap::{Heap, Waiting};
 use crate::room::Room;
 use crate::settled::Settled;
-use crate::tournament::{Tournament, Waiting};
 use pgr_outside::NoMemory;
 use pgr_walks::{Graph, Label, least_labels_are_small};
 use std::alloc::Global;
@@ -19,7 +19,7 @@ use std::marker::Model;
 #[derive(Drop)]
 pub struct GuidedRoom {
     room: Room,
-    keys: Tournament<Key>,
+    keys: Heap<Key>,
 }
 
 impl Model for GuidedRoom {
@@ -42,7 +42,7 @@ impl GuidedRoom {
         ensures empty { IfOk result (All IsNone) }
     {
         let room = Room::for_size(alloc, n)?;
-        let keys = Tournament::for_size(alloc, n)?;
+        let keys = Heap::for_size(alloc, n)?;
         Ok(GuidedRoom { room, keys })
     }
 
@@ -94,7 +94,7 @@ fn guide<G: Graph, E: Estimate>(
     start: u32,
     estimate: &E,
     settled: &mut Settled,
-    keys: &mut Tournament<Key>,
+    keys: &mut Heap<Key>,
 )
     requires fits { Fits (LinksOf G.Graph g.now) }
     requires targets { All (λ t. t < G.count g.now) targets.now }
@@ -122,7 +122,7 @@ fn guide<G: Graph, E: Estimate>(
 }
 
 /// Gives each target the key of the walk without links; no other vertex waits.
-fn mark_with_estimates<E: Estimate>(targets: &[u32], estimate: &E, keys: &mut Tournament<Key>)
+fn mark_with_estimates<E: Estimate>(targets: &[u32], estimate: &E, keys: &mut Heap<Key>)
     requires targets { All (λ t. t < length keys.old) targets.now }
     requires size { E.count estimate.now ≡ length keys.old }
     requires none { All IsNone keys.old }
@@ -131,7 +131,7 @@ fn mark_with_estimates<E: Estimate>(targets: &[u32], estimate: &E, keys: &mut To
 {
     for t in targets {
         let cost = estimate.value(*t);
-        keys.set(*t, Some(Key { cost, hops: 0 }));
+        keys.lower(*t, Key { cost, hops: 0 });
     }
 }
 
@@ -141,7 +141,7 @@ fn settle_guided<G: Graph, E: Estimate>(
     nearest: Waiting<Key>,
     estimate: &E,
     settled: &mut Settled,
-    keys: &mut Tournament<Key>,
+    keys: &mut Heap<Key>,
 )
     requires vertex { nearest.vertex < G.count g.now }
     requires size { E.count estimate.now ≡ G.count g.now }
@@ -163,7 +163,7 @@ fn settle_guided<G: Graph, E: Estimate>(
         hops: nearest.key.hops,
     };
     settled.settle(nearest.vertex, label);
-    keys.set(nearest.vertex, None);
+    keys.remove(nearest.vertex);
     let mut guiding = Guiding {
         settled,
         keys,

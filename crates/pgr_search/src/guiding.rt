@@ -1,6 +1,6 @@
 use crate::estimate::Estimate;
+use crate::heap::Heap;
 use crate::settled::Settled;
-use crate::tournament::Tournament;
 use pgr_walks::{Label, Link, LinkVisitor, Next};
 
 /// The cost of a walk's label and the estimate of its vertex together, and its hops, compared in this order.
@@ -18,7 +18,7 @@ pub struct Guiding<'a, E> {
     /// The labels of settled vertices.
     pub settled: &'a Settled,
     /// The keys of waiting vertices.
-    pub keys: &'a mut Tournament<Key>,
+    pub keys: &'a mut Heap<Key>,
     /// The estimate of each vertex.
     pub estimate: &'a E,
     /// The label of the vertex that the links lead to.

@@ -14,6 +14,7 @@ mod bound;
 mod estimate;
 mod guided;
 mod guiding;
+mod heap;
 mod laws;
 mod relaxing;
 mod room;
@@ -22,7 +23,6 @@ mod settled;
 #[cfg(test)]
 mod three_vertices;
 mod tight;
-mod tournament;
 
 pub use bound::Bound;
 pub use estimate::Estimate;

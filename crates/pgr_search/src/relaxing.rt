@@ -1,5 +1,5 @@
+use crate::heap::Heap;
 use crate::settled::Settled;
-use crate::tournament::Tournament;
 use pgr_walks::{Label, Link, LinkVisitor, Next};
 
 /// Relaxes the links that it is shown: those into a vertex of this label, which is settled.
@@ -8,7 +8,7 @@ pub struct Relaxing<'a> {
     /// The labels of settled vertices.
     pub settled: &'a Settled,
     /// The labels of waiting vertices.
-    pub waiting: &'a mut Tournament<Label>,
+    pub waiting: &'a mut Heap<Label>,
     /// The label of the vertex that the links lead to.
     pub label: Label,
 }

@@ -1,7 +1,7 @@
 ghost use Rattle.std.specs.Prelude.{◌≡◌, ◌<◌, None, All, IsNone, IfOk, length, slice_index_or};
 
+use crate::heap::Heap;
 use crate::settled::Settled;
-use crate::tournament::Tournament;
 use pgr_outside::NoMemory;
 use pgr_walks::Label;
 use std::alloc::Global;
@@ -11,7 +11,7 @@ use std::marker::Model;
 #[derive(Drop)]
 pub struct Room {
     pub(crate) settled: Settled,
-    pub(crate) waiting: Tournament<Label>,
+    pub(crate) waiting: Heap<Label>,
 }
 
 impl Model for Room {
@@ -34,7 +34,7 @@ impl Room {
         ensures empty { IfOk result (All IsNone) }
     {
         let settled = Settled::for_size(alloc, n)?;
-        let waiting = Tournament::for_size(alloc, n)?;
+        let waiting = Heap::for_size(alloc, n)?;
         Ok(Room { settled, waiting })
     }
 

@@ -4,15 +4,15 @@ ghost use Rattle.pgr_walks.specs.LinksOf.{LinksOf};
 ghost use Rattle.pgr_walks.specs.Label.{HoldsLabels};
 ghost use Rattle.pgr_search.specs.FinalLabels.{HoldsLabelsUpTo, MeetsBound, IsBoundOf};
 ghost use Rattle.pgr_search.specs.Relaxing.{label_cmp, CanRelax, all_relaxed};
-ghost use Rattle.pgr_search.specs.Tournament.{IsLeast};
+ghost use Rattle.pgr_search.specs.Heap.{IsLeast};
 ghost use Rattle.pgr_search.specs.Turn.{AreReached, HasReached, IsBefore, IsOver};
 ghost use Rattle.pgr_search.specs.Start.{StartsAt};
 
 use crate::bound::Bound;
+use crate::heap::{Heap, Waiting};
 use crate::relaxing::Relaxing;
 use crate::room::Room;
 use crate::settled::Settled;
-use crate::tournament::{Tournament, Waiting};
 use pgr_walks::{Graph, Label, least_labels_are_small};
 
 /// Gives each vertex the least cost and hops over all walks from it to a target, and none where there is no such walk.
@@ -61,7 +61,7 @@ fn search<G: Graph>(
     targets: &[u32],
     bound: Bound<'_>,
     settled: &mut Settled,
-    waiting: &mut Tournament<Label>,
+    waiting: &mut Heap<Label>,
 )
     requires fits { Fits (LinksOf G.Graph g.now) }
     requires targets { All (λ t. t < G.count g.now) targets.now }
@@ -84,14 +84,14 @@ fn search<G: Graph>(
 }
 
 /// Gives each target the label of the walk without links; no other vertex waits.
-fn mark_targets(targets: &[u32], waiting: &mut Tournament<Label>)
+fn mark_targets(targets: &[u32], waiting: &mut Heap<Label>)
     requires targets { All (λ t. t < length waiting.old) targets.now }
     requires none { All IsNone waiting.old }
     ensures marks { StartsAt targets.now waiting.new }
     ensures size { length waiting.new ≡ length waiting.old }
 {
     for t in targets {
-        waiting.set(*t, Some(Label { cost: 0, hops: 0 }));
+        waiting.lower(*t, Label { cost: 0, hops: 0 });
     }
 }
 
@@ -101,7 +101,7 @@ fn mark_targets(targets: &[u32], waiting: &mut Tournament<Label>)
 fn next(
     bound: Bound<'_>,
     settled: &Settled,
-    waiting: &Tournament<Label>,
+    waiting: &Heap<Label>,
     reached: &mut usize,
 ) -> Option<Waiting<Label>>
     requires bound { IsBoundOf (length settled.now) bound }
@@ -151,7 +151,7 @@ fn settle<G: Graph>(
     g: &G,
     nearest: Waiting<Label>,
     settled: &mut Settled,
-    waiting: &mut Tournament<Label>,
+    waiting: &mut Heap<Label>,
 )
     requires vertex { nearest.vertex < G.count g.now }
     requires settled { length settled.old ≡ G.count g.now }
@@ -163,7 +163,7 @@ fn settle<G: Graph>(
         ≡ all_relaxed settled.new (slice_set waiting.old nearest.vertex None) nearest.key (G.ins g.now nearest.vertex) }
 {
     settled.settle(nearest.vertex, nearest.key);
-    waiting.set(nearest.vertex, None);
+    waiting.remove(nearest.vertex);
     let mut relaxing = Relaxing {
         settled,
         waiting,

@@ -11,7 +11,7 @@ each_in-requires-clause-ready g c =
     let here = label_of_key values c.args.nearest.vertex c.args.nearest.key in
     let links = g.G.Graph.ins c.args.g.now c.args.nearest.vertex in
     Admits-from_parts _ _ _ _ values _ here links (ap length c.settle.ensures ∙ length-set _ _ _ ∙ c.requires.settled ∙ sym c.requires.size)
-    (ap length c.set.ensures ∙ length-set _ _ _ ∙ c.requires.keys ∙ sym c.requires.size)
+    (ap length c.remove.ensures ∙ length-set _ _ _ ∙ c.requires.keys ∙ sym c.requires.size)
     (λ i. record { cost = c.args.nearest.key.cost - c.value.ensures i; hops = c.args.nearest.key.hops })
     (recursion_from_All _ _ (subst (λ n. All (CanGuide n values here) links) (sym c.requires.size) c.requires.links))
 
