@@ -20,7 +20,7 @@ use pgr_walks::{Graph, Label, least_labels_are_small};
 /// It needs a graph that fits, targets below its size and a room of that size. A target has cost 0 and
 /// no hops. There may be no targets, and they may repeat; what the room held before has no part in the
 /// answer. It takes no memory.
-/// Source: Dijkstra 1959. Work, not proved: for each link the matches of a tournament among the vertices.
+/// Source: Dijkstra 1959. Work, not proved: for each link and each vertex the steps of a heap of the waiting vertices.
 pub fn labels_to<G: Graph>(g: &G, targets: &[u32], room: &mut Room)
     requires fits { Fits (LinksOf G.Graph g.now) }
     requires targets { All (λ t. t < G.count g.now) targets.now }
@@ -40,8 +40,8 @@ pub fn labels_to<G: Graph>(g: &G, targets: &[u32], room: &mut Room)
 /// and no label is beyond those of all of them; they may repeat, and where there are none no vertex has a label.
 /// With a limit the vertices that have a label are exactly those whose least cost is at most the limit.
 /// It takes no memory.
-/// Source: Dijkstra 1959. Work, not proved: for each link into a vertex with a label the matches of a tournament,
-/// and no other link is shown.
+/// Source: Dijkstra 1959. Work, not proved: for each vertex with a label and each link into it the steps of a heap of
+/// the waiting vertices, and no other link is shown.
 pub fn labels_until<G: Graph>(g: &G, targets: &[u32], bound: Bound<'_>, room: &mut Room)
     requires fits { Fits (LinksOf G.Graph g.now) }
     requires targets { All (λ t. t < G.count g.now) targets.now }
