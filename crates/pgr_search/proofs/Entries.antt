@@ -1,5 +1,5 @@
 -- Entries of waiting vertices: what stands at a place after a write, a push or a pop.
-use Rattle.std.proofs.Common.{◌≡◌, ℕ, zero, suc, ◌<◌, ◌-◌, ◌+◌, List, [], ◌∷◌, ◌++◌, Option, Some, None, length, get_or, set, take, refl, sym, ap, ◌∙◌, arith}
+use Rattle.std.proofs.Common.{◌≡◌, ℕ, zero, suc, ◌<◌, ◌-◌, ◌+◌, List, [], ◌∷◌, ◌++◌, Some, length, get_or, set, refl, sym, ap, arith}
 use Rattle.pgr_search.specs.declared.heap.Waiting.{Waiting}
 use Rattle.pgr_search.specs.Heap.{vertex_in, key_in}
 

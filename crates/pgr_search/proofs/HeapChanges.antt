@@ -1,9 +1,9 @@
 -- Where the entries of vertices stand after a vertex came in, had its key lowered, or went out.
-use Rattle.std.proofs.Common.{◌≡◌, ℕ, zero, suc, ◌+◌, ◌-◌, ◌<◌, ◌≤◌, ◌^◌, ◌⊎◌, inl, inr, cond, List, [], ◌∷◌, ◌++◌, Option, Some, None, IsNone, All, length, get_or, set, map, take, replicate, refl, sym, ap, ◌∙◌, subst, arith}
+use Rattle.std.proofs.Common.{◌≡◌, ℕ, zero, suc, ◌+◌, ◌-◌, ◌<◌, ◌≤◌, ◌⊎◌, inl, inr, cond, List, [], ◌∷◌, ◌++◌, Option, Some, None, length, get_or, set, replicate, refl, sym, ap, ◌∙◌, arith}
 use Rattle.std.specs.Option.{is_some}
 use Rattle.std.specs.List.{count_by}
-use Rattle.std.proofs.lemmas.Bool.{cases_eq, cases_lt}
-use Rattle.std.proofs.lemmas.List.{get_or-set_same, get_or-set_other, length-set, length-append, length-replicate, get_or-replicate, get_or_past, same_lists, get_or_default}
+use Rattle.std.proofs.lemmas.Bool.{cases_eq}
+use Rattle.std.proofs.lemmas.List.{get_or-set_same, get_or-set_other, length-set, length-append, length-replicate, get_or-replicate, same_lists, get_or_default}
 use Rattle.std.proofs.lemmas.List.Sums.{sum_by-set, count_by-le-length}
 use Rattle.pgr_search.specs.declared.heap.Waiting.{Waiting}
 use Rattle.pgr_search.specs.Heap.{key_at, key_in, vertex_in, place_at, ArePlaced}
@@ -79,7 +79,8 @@ module _ {K : Type 0} where
           ∙ ap (place_at (set places entry.vertex (length entries + 1))) (vertex_in-push_last entries entry) ∙ here_in ∙ ap (λ q. q + 1) (sym e)
       placed_in p lt (inr f) =
           let less : p < length entries = omega arith in
-          ap (place_at (set places entry.vertex (length entries + 1))) (vertex_in-push_other entries entry p less) ∙ there_in (vertex_in entries p) (apart_in p less) ∙ h.there p less
+          ap (place_at (set places entry.vertex (length entries + 1))) (vertex_in-push_other entries entry p less)
+          ∙ there_in (vertex_in entries p) (apart_in p less) ∙ h.there p less
 
       stands_in : (p : ℕ) → p < length entries + 1 → (p ≡ length entries) ⊎ (p ≡ length entries → ⊥)
           → key_at (set keys entry.vertex (Some entry.key)) (vertex_in (entries ++ entry ∷ []) p) ≡ key_in (entries ++ entry ∷ []) p

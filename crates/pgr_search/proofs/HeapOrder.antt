@@ -1,9 +1,9 @@
 -- The order of a heap's entries: how it comes back while an entry moves up or down, and that the first entry is least.
-use Rattle.std.proofs.Common.{◌≡◌, ℕ, zero, suc, ◌+◌, ◌-◌, ◌*◌, ◌/◌, ◌<◌, ◌≤◌, ◌⊎◌, inl, inr, true, false, List, Option, Some, None, length, refl, sym, ap, ◌∙◌, subst, arith, Ordering}
-use Rattle.std.proofs.lemmas.Bool.{cases_eq, cases_lt}
+use Rattle.std.proofs.Common.{◌≡◌, ℕ, zero, suc, ◌+◌, ◌-◌, ◌<◌, ◌≤◌, ◌⊎◌, inl, inr, true, false, List, length, refl, sym, ap, ◌∙◌, arith, Ordering}
+use Rattle.std.proofs.lemmas.Bool.{cases_eq}
 use Rattle.std.specs.Cmp.{IsTotalOrder}
 use Rattle.pgr_search.specs.declared.heap.Waiting.{Waiting}
-use Rattle.pgr_search.specs.Heap.{is_before, key_in, vertex_in, place_at, above, IsOrdered, IsSpanned, IsOrderedUnder, IsOrderedOver}
+use Rattle.pgr_search.specs.Heap.{is_before, key_in, vertex_in, place_at, above, IsOrdered, IsOrderedUnder, IsOrderedOver}
 use Rattle.pgr_search.proofs.KeyOrder.{before_itself, one_before, not_before-trans, not_before_at}
 
 -- the entries at two places, and what is kept for their vertices, were exchanged

@@ -1,13 +1,9 @@
 -- Where the entries of vertices stand: what is kept after two of them changed places, and after a vertex came in or went out.
-use Rattle.std.proofs.Common.{◌≡◌, ℕ, zero, suc, ◌+◌, ◌-◌, ◌<◌, ◌≤◌, ◌^◌, ◌⊎◌, inl, inr, cond, List, [], ◌∷◌, ◌++◌, Option, Some, None, length, get_or, set, map, take, replicate, refl, sym, ap, ◌∙◌, subst, arith}
-use Rattle.std.specs.Option.{is_some}
-use Rattle.std.specs.List.{count_by}
-use Rattle.std.proofs.lemmas.Bool.{cases_eq, cases_lt}
-use Rattle.std.proofs.lemmas.List.{get_or-set_same, get_or-set_other, length-set, length-map, length-append, length-replicate, get_or-replicate, get_or_past, same_lists, get_or_default}
-use Rattle.std.proofs.lemmas.List.Sums.{sum_by-set, count_by-le-length}
+use Rattle.std.proofs.Common.{◌≡◌, ℕ, zero, suc, ◌+◌, ◌-◌, ◌<◌, ◌⊎◌, inl, inr, List, [], ◌∷◌, Option, None, length, get_or, refl, sym, ap, ◌∙◌, arith}
+use Rattle.std.proofs.lemmas.Bool.{cases_eq}
+use Rattle.std.proofs.lemmas.List.{length-map, same_lists, get_or_default}
 use Rattle.pgr_search.specs.declared.heap.Waiting.{Waiting}
 use Rattle.pgr_search.specs.Heap.{key_at, key_in, vertex_in, place_at, key_behind, keys_of, ArePlaced}
-use Rattle.pgr_search.proofs.Entries.{key_in-some, key_in-set_same, key_in-set_other, vertex_in-set_same, vertex_in-set_other, key_in-push_last, key_in-push_other, vertex_in-push_last, vertex_in-push_other}
 use Rattle.pgr_search.proofs.HeapOrder.{IsExchanged}
 
 module _ {K : Type 0} where

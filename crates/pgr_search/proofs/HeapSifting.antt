@@ -1,11 +1,11 @@
 -- How an entry that has a place, but isn't written yet, moves up or down through a heap.
-use Rattle.std.proofs.Common.{◌≡◌, ℕ, zero, suc, ◌+◌, ◌-◌, ◌*◌, ◌/◌, ◌<◌, ◌≤◌, ◌⊎◌, inl, inr, true, false, List, [], ◌∷◌, ◌++◌, Option, Some, None, length, get_or, set, refl, sym, ap, ◌∙◌, subst, arith, Ordering}
-use Rattle.std.proofs.lemmas.Bool.{cases_eq, cases_lt}
-use Rattle.std.proofs.lemmas.List.{get_or-set_same, get_or-set_other, length-set, length-append}
+use Rattle.std.proofs.Common.{◌≡◌, ℕ, ◌+◌, ◌-◌, ◌<◌, ◌⊎◌, inl, inr, true, false, List, Option, Some, length, get_or, set, sym, ap, ◌∙◌, arith, Ordering}
+use Rattle.std.proofs.lemmas.Bool.{cases_eq}
+use Rattle.std.proofs.lemmas.List.{get_or-set_same, get_or-set_other, length-set}
 use Rattle.std.specs.Cmp.{IsTotalOrder}
 use Rattle.pgr_search.specs.declared.heap.Waiting.{Waiting}
-use Rattle.pgr_search.specs.Heap.{is_before, key_in, vertex_in, place_at, above, ArePlaced, IsHeap, IsOrdered, IsOrderedUnder, IsOrderedOver, IsRising, IsSinking, IsSifting, IsChildToRise, NoneRises}
-use Rattle.pgr_search.proofs.Entries.{key_in-read, vertex_in-read, key_in-set_same, key_in-set_other, vertex_in-set_same, vertex_in-set_other, key_in-push_last, key_in-push_other}
+use Rattle.pgr_search.specs.Heap.{is_before, key_in, vertex_in, place_at, above, ArePlaced, IsHeap, IsRising, IsSinking, IsSifting, IsChildToRise, NoneRises}
+use Rattle.pgr_search.proofs.Entries.{key_in-read, vertex_in-read, key_in-set_same, key_in-set_other, vertex_in-set_same, vertex_in-set_other}
 use Rattle.pgr_search.proofs.KeyOrder.{one_before, not_before-trans, not_before_at}
 use Rattle.pgr_search.proofs.HeapOrder.{IsExchanged, rises, sinks, risen, sunk}
 use Rattle.pgr_search.proofs.HeapPlaces.{placed_exchanged}

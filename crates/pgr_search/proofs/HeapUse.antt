@@ -5,11 +5,11 @@ use Rattle.std.specs.List.{count_by, slice_get}
 use Rattle.std.specs.Ordering.{is_lt}
 use Rattle.std.proofs.lemmas.Bool.{cases_eq}
 use Rattle.std.proofs.lemmas.Option.{none-some}
-use Rattle.std.proofs.lemmas.List.{get_or-replicate, get_or_past, get_or_default, length-replicate, length-append, length-set, set-get_or, set_at, take_at}
+use Rattle.std.proofs.lemmas.List.{get_or-replicate, length-replicate, length-append, length-set, set-get_or, set_at, take_at}
 use Rattle.std.specs.Cmp.{IsTotalOrder}
 use Rattle.pgr_search.specs.declared.heap.Waiting.{Waiting}
-use Rattle.pgr_search.specs.Heap.{is_before, key_at, key_in, vertex_in, place_at, key_behind, keys_of, keys_with, above, lowered, IsLeast, ArePlaced, IsHeap, IsOrdered, IsRising, IsSifting}
-use Rattle.pgr_search.proofs.Entries.{key_in-read, vertex_in-read, key_in-set_same, key_in-set_other, key_in-push_last, key_in-push_other, vertex_in-push_last}
+use Rattle.pgr_search.specs.Heap.{is_before, key_at, key_in, vertex_in, place_at, keys_of, keys_with, above, lowered, IsLeast, ArePlaced, IsHeap, IsOrdered, IsRising, IsSifting}
+use Rattle.pgr_search.proofs.Entries.{key_in-read, vertex_in-read, key_in-set_same, key_in-set_other, key_in-push_other, vertex_in-push_last}
 use Rattle.pgr_search.proofs.KeyOrder.{before_itself, one_before, not_before-trans, not_before_at}
 use Rattle.pgr_search.proofs.HeapOrder.{first_is_least}
 use Rattle.pgr_search.proofs.HeapPlaces.{keys_are}
@@ -69,7 +69,8 @@ module _ {K : Type 0} where
   self keys places entries h = subst (λ xs. ArePlaced xs places entries) (sym (keys_are keys places entries h)) h
 
   -- a heap whose places were written back
-  module _ (cmp : K → K → Ordering) (keys : List (Option K)) (old after : List ℕ) (n : ℕ) (entries : List (Waiting K)) (len : length after ≡ n) (h : IsHeap cmp keys after entries) where
+  module _ (cmp : K → K → Ordering) (keys : List (Option K)) (old after : List ℕ) (n : ℕ) (entries : List (Waiting K)) (len : length after ≡ n)
+      (h : IsHeap cmp keys after entries) where
     whole : take n (after ++ drop (length after) old) ≡ after
     whole = take_at after (drop (length after) old) n len
 

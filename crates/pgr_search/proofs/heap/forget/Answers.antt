@@ -1,5 +1,4 @@
-use Rattle.std.proofs.Common.{◌≡◌, ◌<◌, length, sym, ap, ◌∙◌, arith}
-use Rattle.pgr_search.specs.Heap.{vertex_in}
+use Rattle.std.proofs.Common.{arith}
 use Rattle.pgr_search.proofs.Entries.{vertex_in-read}
 use Rattle.pgr_search.proofs.HeapChanges.{none_forgotten, one_forgotten, all_forgotten}
 use Rattle.pgr_search.proofs.heap.forget.Goals as goal

@@ -1,8 +1,6 @@
-use Rattle.std.proofs.Common.{◌≡◌, ◌<◌, ◌≤◌, ◌+◌, ◌⊎◌, inl, inr, ℕ, Some, true, false, length, sym, ap, ◌∙◌, arith}
-use Rattle.std.proofs.lemmas.Bool.{cases_eq}
+use Rattle.std.proofs.Common.{◌≡◌, ◌<◌, true, false, length, sym, ◌∙◌, arith}
 use Rattle.pgr_search.specs.Heap.{is_before, key_in}
 use Rattle.pgr_search.proofs.Entries.{key_in-read}
-use Rattle.pgr_search.proofs.KeyOrder.{before_itself, one_before, not_before-trans, not_before_at}
 use Rattle.pgr_search.proofs.HeapUse.{least_of_more, least_stays}
 use Rattle.pgr_search.proofs.heap.least_from.Goals as goal
 use Rattle.pgr_search.proofs.heap.least_from.Goals.{then-comes_before, else-comes_before}

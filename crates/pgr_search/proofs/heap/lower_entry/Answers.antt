@@ -1,4 +1,4 @@
-use Rattle.std.proofs.Common.{◌≡◌, ◌<◌, ◌+◌, ◌-◌, [], ◌∷◌, ◌++◌, None, Some, true, false, length, slice_index_or, sym, ap, ◌∙◌, subst, subst₂, arith}
+use Rattle.std.proofs.Common.{◌≡◌, ◌+◌, ◌-◌, [], ◌∷◌, ◌++◌, None, Some, true, false, length, slice_index_or, sym, ap, ◌∙◌, subst, subst₂, arith}
 use Rattle.std.proofs.lemmas.Bool.{false≢true}
 use Rattle.pgr_search.specs.Heap.{is_before, key_in, keys_of, keys_with, lowered, IsHeap, IsRising}
 use Rattle.pgr_search.proofs.Entries.{key_in-read}

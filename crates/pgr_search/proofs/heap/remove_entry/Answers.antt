@@ -1,4 +1,4 @@
-use Rattle.std.proofs.Common.{◌≡◌, ◌<◌, ◌+◌, ◌-◌, [], ◌∷◌, ◌++◌, None, length, slice_set, slice_index_or, sym, ap, ◌∙◌, subst, arith}
+use Rattle.std.proofs.Common.{◌≡◌, ◌<◌, ◌+◌, ◌-◌, [], ◌∷◌, None, length, slice_set, slice_index_or, sym, ap, subst, arith}
 use Rattle.std.proofs.lemmas.List.{length-append}
 use Rattle.pgr_search.specs.Heap.{keys_of, keys_with, IsHeap, IsSifting}
 use Rattle.pgr_search.proofs.HeapUse.{keys_out, sifts_out, last_gone, written_entries}
@@ -31,7 +31,8 @@ returns-then-place-len-clause-heap g c =
     let same = subst (λ es. keys_with (slice_set places c.args.v 0) es at last ≡ slice_set keys c.args.v None) (sym c.as_mut_slice.ensures.value)
     (keys_out g.K.Ord.cmp g.met.K.Ord.total _ places rest last h c.args.v at is_at inner) in
     let len : length c.sift.new.entries ≡ c.pop.new.self.len = omega (arith, c.sift.auto.entries, ap length c.as_mut_slice.ensures.value, c.pop.new.self.ok.0) in
-    written_entries g.K.Ord.cmp _ _ rest c.sift.new.entries c.pop.new.self.len len (subst (λ ks. IsHeap g.K.Ord.cmp ks c.sift.new.places c.sift.new.entries) same c.sift.ensures.heap)
+    written_entries g.K.Ord.cmp _ _ rest c.sift.new.entries c.pop.new.self.len len
+    (subst (λ ks. IsHeap g.K.Ord.cmp ks c.sift.new.places c.sift.new.entries) same c.sift.ensures.heap)
 
 pub returns-else-place-len-clause-heap : goal.returns-else-place-len-clause-heap
 returns-else-place-len-clause-heap g c =

@@ -1,4 +1,4 @@
-use Rattle.std.proofs.Common.{◌≡◌, ◌<◌, ◌+◌, Some, length, sym, ap, ◌∙◌, subst₂, arith}
+use Rattle.std.proofs.Common.{sym, subst₂, arith}
 use Rattle.pgr_search.specs.Heap.{IsSinking, IsHeap, keys_with}
 use Rattle.pgr_search.proofs.HeapSifting.{other_below, sinks_on, sinks_no_more}
 use Rattle.pgr_search.proofs.heap.sift_down.Goals as goal

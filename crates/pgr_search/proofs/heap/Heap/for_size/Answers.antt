@@ -1,4 +1,4 @@
-use Rattle.std.proofs.Common.{◌≡◌, ℕ, [], None, length, replicate, sym, ap, ◌∙◌, subst₂, arith}
+use Rattle.std.proofs.Common.{◌≡◌, ℕ, [], None, length, replicate, sym, ap, subst₂, arith}
 use Rattle.std.proofs.lemmas.List.{length-replicate}
 use Rattle.pgr_search.specs.Heap.{keys_of, IsHeap}
 use Rattle.pgr_search.proofs.HeapUse.{empty_heap, keys_of-none}

@@ -1,4 +1,4 @@
-use Rattle.std.proofs.Common.{◌≡◌, ap, ◌∙◌}
+use Rattle.std.proofs.Common.{ap, ◌∙◌}
 use Rattle.std.specs.List.{slice_get}
 use Rattle.pgr_search.proofs.HeapUse.{first_read, least_first}
 use Rattle.pgr_search.proofs.heap.Heap.least.Goals as goal
