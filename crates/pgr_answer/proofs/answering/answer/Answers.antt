@@ -42,6 +42,10 @@ returns-in_err-judge_together-clause-completes g c known together =
     (refused_read (g.S.Store.content c.args.store.now) c.args.command.now c.in_err-judge_together.field-0.0 c.in_ok-tables.ensures.tables
     (sym c.in_err-judge_together.ensures)) together)
 
+pub returns-in_err-rows-clause-refused : goal.returns-in_err-rows-clause-refused
+returns-in_err-rows-clause-refused g c =
+    if_err c.from_residual-in_err-rows.result Memory _ c.from_residual-in_err-rows.ensures.1 (λ other. absurd (other refl))
+
 pub returns-in_err-rows-clause-first : goal.returns-in_err-rows-clause-first
 returns-in_err-rows-clause-first g c refused first =
     errs_this c.from_residual-in_err-rows.result Memory refused c.from_residual-in_err-rows.ensures.1 (inr (inl refl))
