@@ -1,7 +1,6 @@
 ghost use Rattle.std.specs.Prelude.{ℤ, ◌<◌, if◌then◌else◌};
 ghost use Rattle.std.specs.Ordering.{int_eq};
 ghost use Rattle.pgr_walks.specs.declared.visitor.Next.TheVariants.{Go, Stop};
-ghost use Rattle.pgr_walks.specs.declared.link.LinkOf.{LinkOf};
 
 use super::*;
 use std::alloc::Global;
