@@ -3,10 +3,10 @@ ghost use Rattle.pgr_walks.specs.declared.link.LinkOf.{LinkOf};
 ghost use Rattle.pgr_graph.specs.Links.{IsLinkOfTable};
 ghost use Rattle.pgr_answer.specs.Networks.{id_links};
 
-use crate::link_network::network_of_links;
+use crate::link_network::network_of_source;
 use crate::network::Network;
-use pgr_graph::{links_by_row, links_fit};
-use pgr_numbers::names_are_few;
+use pgr_graph::{LinksByRow, links_fit};
+use pgr_numbers::names_of_source_are_few;
 use pgr_outside::NoMemory;
 use pgr_table::EdgeTable;
 use pgr_walks::RowGraph;
@@ -26,8 +26,8 @@ pub(crate) fn network_of(
     // From this call it is known that a table has few enough rows for its names to be numbered.
     let _rows = edges.len();
     links_fit(edges);
-    let links = links_by_row(alloc, edges, directed)?;
-    names_are_few(links.as_slice());
-    let network = network_of_links(alloc, links)?;
+    let source = LinksByRow::of(edges, directed);
+    names_of_source_are_few(&source);
+    let network = network_of_source(alloc, &source)?;
     Ok(network)
 }

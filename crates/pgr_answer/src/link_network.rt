@@ -1,13 +1,14 @@
-ghost use Rattle.std.specs.Prelude.{◌≡◌, ◌↔◌, ℕ, ◌<◌, ◌^◌, ℤ, List, length, Contains, IfOk};
+ghost use Rattle.std.specs.Prelude.{◌≡◌, ◌↔◌, ℕ, ◌<◌, ◌^◌, ℤ, List, length, map, Contains, IfOk};
 ghost use Rattle.pgr_outside.specs.Lists.{IsWithoutRepeats};
 ghost use Rattle.pgr_walks.specs.declared.link.LinkOf.{LinkOf};
 ghost use Rattle.pgr_walks.specs.Graph.{Fits};
-ghost use Rattle.pgr_numbers.specs.Names.{AreEnds, AreNumbered};
+ghost use Rattle.pgr_numbers.specs.Names.{AreEnds, AreNumbered, named};
+ghost use Rattle.pgr_numbers.specs.Slots.{links_in};
 ghost use Rattle.pgr_answer.specs.NamedLinks.{all_links, LeadToVertices};
 ghost use Rattle.pgr_answer.specs.Networks.{id_links};
 
 use crate::network::Network;
-use pgr_numbers::{Names, graph_of_numbered_links_fits, numbered_links_fit};
+use pgr_numbers::{LinkSource, Names, graph_of_numbered_links_fits, numbered_links_fit};
 use pgr_outside::NoMemory;
 use pgr_walks::{Graph, Link, NamedLink, RowGraph};
 use std::alloc::Global;
@@ -26,6 +27,44 @@ pub(crate) fn network_of_links(
     ensures links { IfOk result (λ network. (link : LinkOf ℤ) → Contains (id_links network) link ↔ Contains links.items link) }
 {
     let (names, numbered) = numbered_by_names(alloc, links)?;
+    network_of_numbers(alloc, names, numbered)
+}
+
+/// The network of the links of a source, which are read one at a time, with no list of them.
+///
+/// `NoMemory` may come at any call.
+pub(crate) fn network_of_source<S: LinkSource>(
+    alloc: Global,
+    source: &S,
+) -> Result<Network<RowGraph>, NoMemory>
+    requires few { (names : List ℤ) → AreEnds (links_in (S.slots source.now)) names → length names < 2 ^ 32 }
+    requires once { IsWithoutRepeats (links_in (S.slots source.now)) }
+    requires fits { Fits (Contains (links_in (S.slots source.now))) }
+    ensures ends { IfOk result (λ network. AreEnds (links_in (S.slots source.now)) network.names) }
+    ensures links { IfOk result (λ network. (link : LinkOf ℤ)
+        → Contains (id_links network) link ↔ Contains (links_in (S.slots source.now)) link) }
+{
+    let names = Names::of_source(alloc, source)?;
+    let numbered = names.numbered_source(source)?;
+    network_of_numbers(alloc, names, numbered)
+}
+
+/// The network of some links between numbers, whose names are exactly the ids of their ends.
+///
+/// `NoMemory` may come at any call.
+fn network_of_numbers(
+    alloc: Global,
+    names: Names,
+    numbered: Vec<Link>,
+) -> Result<Network<RowGraph>, NoMemory>
+    requires numbered { AreNumbered names (map (named names) numbered.items) numbered.items }
+    requires ends { AreEnds (map (named names) numbered.items) names }
+    requires once { IsWithoutRepeats (map (named names) numbered.items) }
+    requires fits { Fits (Contains (map (named names) numbered.items)) }
+    ensures names { IfOk result (λ network. network.names ≡ names) }
+    ensures links { IfOk result (λ network. (link : LinkOf ℤ)
+        → Contains (id_links network) link ↔ Contains (map (named names) numbered.items) link) }
+{
     numbered_links_fit();
     let graph = RowGraph::from_links(alloc, names.len(), numbered)?;
     graph_of_numbered_links_fits(&graph);

@@ -1,4 +1,5 @@
 pub mod RowLinks
+mod RowSlots
 pub mod TableLinks
 pub mod TableFits
 pub mod Examples

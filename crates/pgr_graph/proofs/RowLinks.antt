@@ -1,12 +1,10 @@
 -- The links of rows, row by row: exactly those that the rows give, each once where the ids of the rows are distinct.
-use Rattle.std.proofs.Common.{◌≡◌, ◌≢◌, ℕ, ◌+◌, ◌⊎◌, inl, inr, ⊎_elim, ℤ, pos, negsuc, List, [], ◌∷◌, ◌++◌, map, take, Bool, true, false, if◌then◌else◌, Option, Some, slice_get, refl, sym, ap, subst, ◌∙◌}
+use Rattle.std.proofs.Common.{◌≡◌, ◌≢◌, ℕ, ◌⊎◌, inl, inr, ⊎_elim, ℤ, pos, negsuc, List, [], ◌∷◌, ◌++◌, map, Bool, true, false, if◌then◌else◌, refl, sym, ap, subst, ◌∙◌}
 use Rattle.std.specs.List.{Contains}
 use Rattle.std.specs.Option.{option_to_list}
 use Rattle.std.specs.Ordering.{int_eq}
 use Rattle.std.proofs.lemmas.Bool.Decides.{Decides-int_eq}
-use Rattle.std.proofs.lemmas.List.{append-nil, append_assoc}
 use Rattle.pgr_outside.specs.Lists.{IsWithoutRepeats}
-use Rattle.pgr_outside.proofs.Lists.{take_one_more}
 use Rattle.pgr_walks.specs.declared.link.LinkOf.{LinkOf}
 use Rattle.pgr_walks.proofs.Repeats.{Among, Apart, Apart-from_IsWithoutRepeats}
 use Rattle.pgr_walks.proofs.Membership.{Among-from_Contains, Contains-from_Among, Among-left, Among-right, Among-cases, Among-map}
@@ -146,32 +144,6 @@ loop_yes row = (Decides-int_eq row.source row.target).0
 loop_no : (row : EdgeRow) → int_eq row.source row.target ≡ false → row.source ≢ row.target
 loop_no row apart same = cc ((Decides-int_eq row.source row.target).1 same)
 
--- the links of one direction where the costs differ, and of the directed graph where the ends do, as they are appended
-two_more : (before middle after : List (LinkOf ℤ)) (o p x y : Option (LinkOf ℤ)) → o ≡ x → middle ≡ before ++ option_to_list o → p ≡ y
-    → after ≡ middle ++ option_to_list p → after ≡ before ++ (option_to_list x ++ option_to_list y)
-two_more before middle after o p x y o_is middle_is p_is after_is =
-    after_is ∙ (ap (λ list. list ++ option_to_list p) middle_is ∙ (ap (λ z. (before ++ option_to_list z) ++ option_to_list p) o_is
-    ∙ (ap (λ z. (before ++ option_to_list x) ++ option_to_list z) p_is ∙ append_assoc before (option_to_list x) (option_to_list y))))
-
-pub costs_differ : (row : EdgeRow) (direction : Direction) (before middle after : List (LinkOf ℤ)) (o p : Option (LinkOf ℤ)) → row.cost ≢ row.reverse_cost
-    → o ≡ link_of_sense row direction row.cost → middle ≡ before ++ option_to_list o → p ≡ link_of_sense row direction row.reverse_cost
-    → after ≡ middle ++ option_to_list p → after ≡ before ++ links_along row direction
-costs_differ row direction before middle after o p differ o_is middle_is p_is after_is = by (int_eq row.cost row.reverse_cost) (Decides-int_eq row.cost row.reverse_cost).0
-  where
-    by : (same : Bool) → (same ≡ true → row.cost ≡ row.reverse_cost) → after ≡ before ++ both_by same row direction
-    by true equal = absurd (differ (equal refl))
-    by false equal = two_more before middle after o p (link_of_sense row direction row.cost) (link_of_sense row direction row.reverse_cost) o_is middle_is p_is after_is
-
-pub ends_differ : (row : EdgeRow) (directed : Bool) (before middle after : List (LinkOf ℤ)) (o p : Option (LinkOf ℤ)) → directed ≡ true → row.source ≢ row.target
-    → o ≡ link_of_sense row Forward row.cost → middle ≡ before ++ option_to_list o → p ≡ link_of_sense row Backward row.reverse_cost
-    → after ≡ middle ++ option_to_list p → after ≡ before ++ links_of_row directed row
-ends_differ row directed before middle after o p one_way_is differ o_is middle_is p_is after_is = by (int_eq row.source row.target) directed (loop_yes row) one_way_is
-  where
-    by : (loop directed : Bool) → (loop ≡ true → row.source ≡ row.target) → directed ≡ true → after ≡ before ++ links_by loop directed row
-    by true directed same is = absurd (differ (same refl))
-    by false true same is = two_more before middle after o p (link_of_sense row Forward row.cost) (link_of_sense row Backward row.reverse_cost) o_is middle_is p_is after_is
-    by false false same is = cc is
-
 -- the links of a row are those that it gives
 row_gives : (directed : Bool) (row : EdgeRow) (link : LinkOf ℤ) → Among link (links_of_row directed row) → IsLinkOfRow directed row link
 row_gives directed row link h = given_by (int_eq row.source row.target) directed row link (loop_yes row) h
@@ -187,18 +159,6 @@ row_edge directed row link h =
 abbrev pub links_of_rows : Bool → List EdgeRow → List (LinkOf ℤ)
 links_of_rows directed [] = []
 links_of_rows directed (row ∷ rows) = links_of_row directed row ++ links_of_rows directed rows
-
-links-push : (directed : Bool) (rows : List EdgeRow) (row : EdgeRow) → links_of_rows directed (rows ++ row ∷ []) ≡ links_of_rows directed rows ++ links_of_row directed row
-links-push directed [] row = append-nil (links_of_row directed row)
-links-push directed (first ∷ rows) row = ap (λ list. links_of_row directed first ++ list) (links-push directed rows row)
-    ∙ sym (append_assoc (links_of_row directed first) (links_of_rows directed rows) (links_of_row directed row))
-
--- one row more gives its links
-pub links-more : (directed : Bool) (rows : List EdgeRow) (i : ℕ) (row : EdgeRow) (before after : List (LinkOf ℤ)) → slice_get rows i ≡ Some row
-    → before ≡ links_of_rows directed (take i rows) → after ≡ before ++ links_of_row directed row → after ≡ links_of_rows directed (take (i + 1) rows)
-links-more directed rows i row before after here before_is after_is =
-    after_is ∙ (ap (λ list. list ++ links_of_row directed row) before_is
-    ∙ (sym (links-push directed (take i rows) row) ∙ sym (ap (links_of_rows directed) (take_one_more rows i row here))))
 
 -- a link of rows is one of some row
 among_rows : (directed : Bool) (rows : List EdgeRow) (link : LinkOf ℤ) → Among link (links_of_rows directed rows)

@@ -1,12 +1,11 @@
 -- The links of a table, as they are listed and once they are sorted; and a sort and a `dedup` of links.
-use Rattle.std.proofs.Common.{◌≡◌, ℕ, ◌≤◌, ◌↔◌, ℤ, List, length, map, take, Bool, true, ◌&&◌, nat_eq, rules, sym, ap, subst, ◌∙◌}
+use Rattle.std.proofs.Common.{◌≡◌, ◌↔◌, ℤ, List, map, Bool, true, ◌&&◌, nat_eq, rules, sym, subst, ◌∙◌}
 use Rattle.std.specs.Ordering.{int_cmp, int_eq, eq_by_cmp}
 use Rattle.std.specs.Cmp.Rules.{comparing}
 use Rattle.std.specs.Cmp.{IsEquivalence, Equal-is}
 use Rattle.std.specs.List.{Contains, dedup}
 use Rattle.std.specs.List.Sorted.{IsSorted, IsPermutation, IsStrictlySortedBy}
 use Rattle.std.proofs.lemmas.Cmp.{int_cmp_total, eq_by_cmp_equiv}
-use Rattle.std.proofs.lemmas.List.{take_all}
 use Rattle.std.proofs.lemmas.List.Sorted.{Contains-permutation, IsPermutation-sym}
 use Rattle.std.proofs.lemmas.List.Kept.{IsStrictlySortedBy-dedup}
 use Rattle.std.proofs.lemmas.Map.Keys.{Less-from_sorted}
@@ -44,19 +43,16 @@ module _ (same : LinkOf ℤ → LinkOf ℤ → Bool) (ties : (x y : LinkOf ℤ) 
       let P : List (LinkOf ℤ) → Type 0 = IsStrictlySortedBy (link_cmp int_cmp) in
       Less-from_sorted (link_cmp int_cmp) last i j d (subst P (sym last_is) (IsStrictlySortedBy-dedup (link_total int_cmp int_cmp_total) ties sorted in_order)) before inside
 
--- once all rows are read, the links are those of the table, each once
-module _ (directed : Bool) (rows : List EdgeRow) (i : ℕ) (past : length rows ≤ i) (links : List (LinkOf ℤ)) (made : links ≡ links_of_rows directed (take i rows)) where
-  all_made : links ≡ links_of_rows directed rows
-  all_made = made ∙ ap (links_of_rows directed) (take_all i rows past)
-
+-- the links of the rows are those of the table, each once
+module _ (directed : Bool) (rows : List EdgeRow) (links : List (LinkOf ℤ)) (made : links ≡ links_of_rows directed rows) where
   pub links_exact : (link : LinkOf ℤ) → Contains links link ↔ IsLinkOfTable rows directed link
   links_exact link = let P : List (LinkOf ℤ) → Type 0 = λ list. Contains list link in (
-    λ h. table_from_rows directed rows link (subst P all_made h),
-    λ h. subst P (sym all_made) (rows_from_table directed rows link h),
+    λ h. table_from_rows directed rows link (subst P made h),
+    λ h. subst P (sym made) (rows_from_table directed rows link h),
   )
 
   pub links_once : IsWithoutRepeats (map (λ (r : EdgeRow). r.id) rows) → IsWithoutRepeats links
-  links_once ids = IsWithoutRepeats-from_Apart links (subst (λ (list : List (LinkOf ℤ)). Apart list) (sym all_made) (rows_apart directed rows ids))
+  links_once ids = IsWithoutRepeats-from_Apart links (subst (λ (list : List (LinkOf ℤ)). Apart list) (sym made) (rows_apart directed rows ids))
 
 -- a sort keeps them
 pub links_kept : (directed : Bool) (rows : List EdgeRow) (links sorted : List (LinkOf ℤ)) → ((link : LinkOf ℤ) → Contains links link ↔ IsLinkOfTable rows directed link)

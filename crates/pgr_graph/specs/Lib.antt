@@ -1,6 +1,7 @@
 pub mod Links
 pub mod Senses
 pub mod RowLinks
+pub mod RowSlots
 pub mod Arcs
 pub mod ArcSenses
 pub use Rattle.pgr_walks.specs.Link

@@ -7,8 +7,9 @@ ghost use Rattle.pgr_walks.specs.Link.{link_cmp};
 ghost use Rattle.pgr_walks.specs.Graph.{IsStrictlyRising};
 ghost use Rattle.pgr_graph.specs.Links.{IsLinkOfTable};
 ghost use Rattle.pgr_graph.specs.Senses.{link_of_sense};
-ghost use Rattle.pgr_graph.specs.RowLinks.{links_along, links_of_row};
 
+use crate::by_row::LinksByRow;
+use pgr_numbers::LinkSource;
 use pgr_outside::NoMemory;
 use pgr_table::{EdgeRow, EdgeTable};
 use pgr_walks::NamedLink;
@@ -58,52 +59,17 @@ pub fn links_by_row(
     ensures once { IfOk result (λ links. IsWithoutRepeats links.items) }
     ensures few { IfOk result (λ links. vec_len links ≤ 4 * length table.now) }
 {
-    let rows = table.len();
-    let most = if directed { 2 * rows } else { 4 * rows };
-    let mut links = Vec::with_capacity(alloc, most)?;
-    for i in 0..rows {
-        push_links_of(&mut links, table.row(i), directed)?;
+    let source = LinksByRow::of(table, directed);
+    let slots = source.slot_count();
+    let mut links = Vec::with_capacity(alloc, slots)?;
+    for slot in 0..slots {
+        push(&mut links, source.link(slot))?;
     }
     Ok(links)
 }
 
-/// Appends the links that the row gives, each once: a self loop has the same links both ways.
-fn push_links_of(links: &mut Vec<NamedLink>, row: EdgeRow, directed: bool) -> Result<(), NoMemory>
-    ensures items { OnOk result (links.new.items ≡ links.old.items ++ links_of_row directed row) }
-    ensures few { OnOk result (vec_len links.new ≤ vec_len links.old + 4) }
-{
-    if row.source == row.target {
-        return push_links_along(links, row, Direction::Forward);
-    }
-    if directed {
-        push(links, link_of_sense(row, Direction::Forward, row.cost))?;
-        return push(
-            links,
-            link_of_sense(row, Direction::Backward, row.reverse_cost),
-        );
-    }
-    push_links_along(links, row, Direction::Forward)?;
-    push_links_along(links, row, Direction::Backward)
-}
-
-/// Appends the links along the row with each of its costs, equal costs once.
-fn push_links_along(
-    links: &mut Vec<NamedLink>,
-    row: EdgeRow,
-    direction: Direction,
-) -> Result<(), NoMemory>
-    ensures items { OnOk result (links.new.items ≡ links.old.items ++ links_along row direction) }
-    ensures few { OnOk result (vec_len links.new ≤ vec_len links.old + 2) }
-{
-    push(links, link_of_sense(row, direction, row.cost))?;
-    if row.cost == row.reverse_cost {
-        return Ok(());
-    }
-    push(links, link_of_sense(row, direction, row.reverse_cost))
-}
-
 /// The link along the row with the cost, or none where the cost is negative.
-fn link_of_sense(row: EdgeRow, direction: Direction, cost: i64) -> Option<NamedLink>
+pub(crate) fn link_of_sense(row: EdgeRow, direction: Direction, cost: i64) -> Option<NamedLink>
     ensures { result ≡ link_of_sense row direction cost }
 {
     let cost = u64::try_from(cost).ok()?;

@@ -1,25 +1,26 @@
 -- The ends of links: all starts and then all ends, sorted and without repeats, are the names.
-use Rattle.std.proofs.Common.{◌*◌, ◌≤◌, List, ◌++◌, length, map, get_or, refl, sym, ap, subst, inl, inr, ⊎_elim, arith, ℤ}
+use Rattle.std.proofs.Common.{◌*◌, ◌≤◌, List, [], ◌∷◌, ◌++◌, ◌∙◌, length, map, get_or, refl, sym, ap, subst, inl, inr, ⊎_elim, arith, ℤ}
 use Rattle.std.specs.Ordering.{int_cmp, int_eq, is_eq}
 use Rattle.std.specs.List.{dedup, All, Contains}
 use Rattle.std.specs.List.Sorted.{IsSorted, IsPermutation}
 use Rattle.std.proofs.lemmas.Cmp.{int_eq_equiv}
 use Rattle.std.proofs.lemmas.List.{length-map, length-append}
-use Rattle.std.proofs.lemmas.List.Elements.{Contains-get_or, Contains-append_left, Contains-append_right, Contains-append_cases}
+use Rattle.std.proofs.lemmas.List.Elements.{Contains-get_or, Contains-append_left, Contains-append_right, Contains-push, Contains-push_cases}
 use Rattle.std.proofs.lemmas.List.Kept.{Contains-dedup, Contains-from_dedup}
 use Rattle.std.proofs.lemmas.List.Sorted.{Contains-permutation, IsPermutation-sym}
 use Rattle.std.proofs.lemmas.Map.Keys.{IsDistinct-from_apart}
 use Rattle.std.proofs.lemmas.Map.Made.{length-le_from_is_member}
 use Rattle.std.proofs.lemmas.Map.Views.{list_any-from_Contains, Contains-from_any}
 use Rattle.std.specs.Cmp.{signed_Decides}
-use Rattle.pgr_outside.proofs.Lists.{Contains-map, Contains-from_map}
+use Rattle.pgr_outside.proofs.Lists.{Contains-map, Contains-none}
 use Rattle.pgr_walks.specs.declared.link.LinkOf.{LinkOf}
 use Rattle.pgr_walks.specs.Walk.{IsVertex}
 use Rattle.pgr_numbers.specs.Names.{AreEnds, IsNamed}
+use Rattle.pgr_numbers.specs.Ends.{HasEnds}
 use Rattle.pgr_numbers.proofs.Rising.{IsStrictlyRising-dedup}
 
 -- where the links begin, and then where they lead
-abbrev pub ends_in_turn : List (LinkOf ℤ) → List ℤ
+abbrev ends_in_turn : List (LinkOf ℤ) → List ℤ
 ends_in_turn links = map (λ link. link.from) links ++ map (λ link. link.to) links
 
 -- each end stands there
@@ -30,22 +31,40 @@ ends_to links id (link, there, at) =
     (λ to. Contains-append_right _ _ id (subst (Contains (map (λ l. l.to) links)) (sym to) (Contains-map (λ l. l.to) links link there)))
     at
 
--- and nothing else
-ends_from : (links : List (LinkOf ℤ)) (id : ℤ) → Contains (ends_in_turn links) id → IsVertex (Contains links) id
-ends_from links id there =
-    ⊎_elim
-    (λ start. let found = Contains-from_map (λ l. l.from) links id start in (found.0, found.1, inl found.2))
-    (λ end. let found = Contains-from_map (λ l. l.to) links id end in (found.0, found.1, inr found.2))
-    (Contains-append_cases _ _ id there)
+-- a list with no link has no ends
+pub HasEnds-none : HasEnds [] []
+HasEnds-none id = ((λ there. absurd (Contains-none id there)), (λ vertex. absurd (Contains-none vertex.0 vertex.1)))
+
+-- the ends of one more link
+pub HasEnds-more : (links : List (LinkOf ℤ)) (ends : List ℤ) (link : LinkOf ℤ) → HasEnds links ends
+    → HasEnds (links ++ link ∷ []) ((ends ++ link.from ∷ []) ++ link.to ∷ [])
+HasEnds-more links ends link before id = (
+  λ there. ⊎_elim
+      (λ early. ⊎_elim
+      (λ old. let found = (before id).0 old in (found.0, Contains-append_left links (link ∷ []) found.0 found.1, found.2))
+      (λ start. (link, Contains-push links link, inl (sym start)))
+      (Contains-push_cases ends link.from id early))
+      (λ end. (link, Contains-push links link, inr (sym end)))
+      (Contains-push_cases (ends ++ link.from ∷ []) link.to id there),
+  λ (other, there, at). ⊎_elim
+      (λ old. Contains-append_left (ends ++ link.from ∷ []) (link.to ∷ []) id (Contains-append_left ends (link.from ∷ []) id ((before id).1 (other, old, at))))
+      (λ last. ⊎_elim
+      (λ start. Contains-append_left (ends ++ link.from ∷ []) (link.to ∷ []) id
+      (subst (Contains (ends ++ link.from ∷ [])) (ap (λ (l : LinkOf ℤ). l.from) last ∙ sym start) (Contains-push ends link.from)))
+      (λ end. subst (Contains ((ends ++ link.from ∷ []) ++ link.to ∷ [])) (ap (λ (l : LinkOf ℤ). l.to) last ∙ sym end)
+      (Contains-push (ends ++ link.from ∷ []) link.to))
+      at)
+      (Contains-push_cases links link other there),
+)
 
 -- the ends, sorted and without repeats
-pub AreEnds-dedup : (links : List (LinkOf ℤ)) (sorted : List ℤ) → IsPermutation (ends_in_turn links) sorted → IsSorted int_cmp sorted → AreEnds links (dedup int_eq sorted)
-AreEnds-dedup links sorted moved in_order = record {
+pub AreEnds-dedup : (links : List (LinkOf ℤ)) (ends sorted : List ℤ) → HasEnds links ends → IsPermutation ends sorted → IsSorted int_cmp sorted
+    → AreEnds links (dedup int_eq sorted)
+AreEnds-dedup links ends sorted has moved in_order = record {
   rise = IsStrictlyRising-dedup sorted in_order;
   ends = λ id. (
-    (λ there. ends_from links id (Contains-permutation _ _ id (IsPermutation-sym _ _ moved)
-        (Contains-from_dedup int_eq sorted id there))),
-    (λ end. Contains-dedup int_eq_equiv (λ x y. (signed_Decides x y).0) sorted id (Contains-permutation _ _ id moved (ends_to links id end))),
+    (λ there. (has id).0 (Contains-permutation _ _ id (IsPermutation-sym _ _ moved) (Contains-from_dedup int_eq sorted id there))),
+    (λ end. Contains-dedup int_eq_equiv (λ x y. (signed_Decides x y).0) sorted id (Contains-permutation _ _ id moved ((has id).1 end))),
   );
 }
 

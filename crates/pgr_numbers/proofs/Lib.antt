@@ -1,3 +1,4 @@
+pub mod Slots
 pub mod Rising
 pub mod EndLemmas
 pub mod Turning

@@ -1,6 +1,6 @@
 -- Turning links between ids into links between their numbers, and back.
-use Rattle.std.proofs.Common.{◌≡◌, ℕ, ◌+◌, ◌<◌, List, [], ◌∷◌, ◌++◌, length, take, get_or, refl, sym, ap, ◌∙◌, ℤ, pos, Some, slice_get}
-use Rattle.std.proofs.lemmas.List.{map_push, take_more}
+use Rattle.std.proofs.Common.{◌≡◌, ℕ, List, [], ◌∷◌, ◌++◌, refl, ap, ◌∙◌, ℤ, pos, Some, slice_get}
+use Rattle.std.proofs.lemmas.List.{map_push}
 use Rattle.std.proofs.lemmas.List.Elements.{All-push}
 use Rattle.std.proofs.lemmas.Option.{get_or_from_slice_get}
 use Rattle.pgr_walks.specs.declared.link.LinkOf.{LinkOf}
@@ -19,12 +19,10 @@ named_link names link m n edge from to same =
     same_link _ link (get_or_from_slice_get names m link.from (pos 0) from) same refl (get_or_from_slice_get names n link.to (pos 0) to)
 
 -- one more link
-pub AreNumbered-more : (names : List ℤ) (links : List (LinkOf ℤ)) (numbers : List (LinkOf ℕ)) (i : ℕ) (d : LinkOf ℤ) (number : LinkOf ℕ) → i < length links
-    → AreNumbered names (take i links) numbers → named names number ≡ get_or links i d → IsNumbered names number
-    → AreNumbered names (take (i + 1) links) (numbers ++ number ∷ [])
-AreNumbered-more names links numbers i d number inside before same ends = record {
+pub AreNumbered-more : (names : List ℤ) (links : List (LinkOf ℤ)) (numbers : List (LinkOf ℕ)) (link : LinkOf ℤ) (number : LinkOf ℕ) → AreNumbered names links numbers
+    → named names number ≡ link → IsNumbered names number → AreNumbered names (links ++ link ∷ []) (numbers ++ number ∷ [])
+AreNumbered-more names links numbers link number before same ends = record {
   rise = before.rise;
-  same = map_push (named names) numbers number ∙ (ap (λ xs. xs ++ named names number ∷ []) before.same ∙ (ap (λ x. take i links ++ x ∷ []) same ∙ sym
-      (take_more links i d inside)));
+  same = map_push (named names) numbers number ∙ (ap (λ xs. xs ++ named names number ∷ []) before.same ∙ ap (λ x. links ++ x ∷ []) same);
   ends = All-push (IsNumbered names) numbers number before.ends ends;
 }

@@ -7,7 +7,9 @@ ghost use Rattle.pgr_walks.specs.RouteOrder.{route_cmp, IsLeast};
 ghost use Rattle.pgr_walks.specs.Graph.{IsStrictlyRising, Fits};
 ghost use Rattle.pgr_numbers.specs.Names.{AreEnds, AreNumbered, IsNumbered, id_at, named};
 ghost use Rattle.pgr_numbers.specs.Numbering.{IsNumberedWalk};
+ghost use Rattle.pgr_numbers.specs.Slots.{links_in};
 
+use crate::link_source::LinkSource;
 use pgr_walks::NamedLink;
 
 /// There are at most twice as many names as links: fewer than 2^32 names of fewer than 2^31 links.
@@ -18,6 +20,16 @@ pub fn names_are_few(links: &[NamedLink])
         → AreEnds links.now names → length names ≤ 2 * length links.now }
     ensures few { length links.now < 2 ^ 31
         → (names : List ℤ) → AreEnds links.now names → length names < 2 ^ 32 }
+{}
+
+/// There are at most twice as many names as slots of a source: fewer than 2^32 names of fewer than 2^31 slots.
+///
+/// A law; the call does nothing.
+pub fn names_of_source_are_few<S: LinkSource>(source: &S)
+    ensures twice { (names : List ℤ)
+        → AreEnds (links_in (S.slots source.now)) names → length names ≤ 2 * length (S.slots source.now) }
+    ensures few { length (S.slots source.now) < 2 ^ 31
+        → (names : List ℤ) → AreEnds (links_in (S.slots source.now)) names → length names < 2 ^ 32 }
 {}
 
 /// Numbers compare as the ids that they stand for, and no two numbers stand for one id.
