@@ -15,7 +15,7 @@ use std::alloc::Global;
 
 /// The network of some links between ids.
 ///
-/// The memory of their list is given back before the graph takes its own. `NoMemory` may come at any call.
+/// Their list is given back before the graph takes more than the list of the numbered links. `NoMemory` may come at any call.
 pub(crate) fn network_of_links(
     alloc: Global,
     links: Vec<NamedLink>,

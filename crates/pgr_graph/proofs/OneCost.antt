@@ -15,9 +15,9 @@ use Rattle.pgr_table.specs.Rows.{counted}
 use Rattle.pgr_graph.specs.declared.links.Direction.{Direction}
 use Rattle.pgr_graph.specs.declared.links.Direction.TheVariants.{Forward, Backward}
 use Rattle.pgr_graph.specs.Links.{IsLinkOfTable}
-use Rattle.pgr_graph.specs.RowLinks.{links_along, links_of_row}
+use Rattle.pgr_graph.specs.RowLinks.{links_along, links_of_row, links_of_rows}
 use Rattle.pgr_graph.specs.Restricted.{each_once, links_cost, table_cost}
-use Rattle.pgr_graph.proofs.RowLinks.{sense, both_by, links_by, along_cost, links_of_rows, rows_apart, table_from_rows, rows_from_table}
+use Rattle.pgr_graph.proofs.RowLinks.{sense, both_by, links_by, along_cost, rows_apart, table_from_rows, rows_from_table}
 
 -- what is left of links without one of them
 record IsWithout (link : LinkOf ℤ) (links rest : List (LinkOf ℤ)) : Type 0 where

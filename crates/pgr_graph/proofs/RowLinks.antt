@@ -13,7 +13,7 @@ use Rattle.pgr_graph.specs.declared.links.Direction.{Direction}
 use Rattle.pgr_graph.specs.declared.links.Direction.TheVariants.{Forward, Backward}
 use Rattle.pgr_graph.specs.Links.{HasSense, link_along, IsLinkOfRow, IsLinkOfTable}
 use Rattle.pgr_graph.specs.Senses.{link_of_sense}
-use Rattle.pgr_graph.specs.RowLinks.{links_along, links_of_row}
+use Rattle.pgr_graph.specs.RowLinks.{links_along, links_of_row, links_of_rows}
 
 Apart-append : {X : Type 0} (xs ys : List X) → Apart xs → Apart ys → ((x : X) → Among x xs → Among x ys → ⊥) → Apart (xs ++ ys)
 Apart-append [] ys a b none = b
@@ -154,11 +154,6 @@ gives_row directed row link has = by_given (int_eq row.source row.target) direct
 row_edge : (directed : Bool) (row : EdgeRow) (link : LinkOf ℤ) → Among link (links_of_row directed row) → link.edge ≡ row.id
 row_edge directed row link h =
     let given = row_gives directed row link h in ap (λ (l : LinkOf ℤ). l.edge) given.2 ∙ along_edge row given.0 link.cost
-
--- the links of all rows
-abbrev pub links_of_rows : Bool → List EdgeRow → List (LinkOf ℤ)
-links_of_rows directed [] = []
-links_of_rows directed (row ∷ rows) = links_of_row directed row ++ links_of_rows directed rows
 
 -- a link of rows is one of some row
 among_rows : (directed : Bool) (rows : List EdgeRow) (link : LinkOf ℤ) → Among link (links_of_rows directed rows)

@@ -11,9 +11,9 @@ use Rattle.pgr_numbers.specs.Slots.{links_in}
 use Rattle.pgr_table.specs.declared.row.EdgeRow.{EdgeRow}
 use Rattle.pgr_graph.specs.declared.links.Direction.TheVariants.{Forward, Backward}
 use Rattle.pgr_graph.specs.Senses.{link_of_sense}
-use Rattle.pgr_graph.specs.RowLinks.{links_of_row}
+use Rattle.pgr_graph.specs.RowLinks.{links_of_row, links_of_rows}
 use Rattle.pgr_graph.specs.RowSlots.{second_along, slots_of_row, slots_of_table}
-use Rattle.pgr_graph.proofs.RowLinks.{sense, both_by, links_of_rows}
+use Rattle.pgr_graph.proofs.RowLinks.{sense, both_by}
 
 -- an element of the first list, and one past it
 append-within : {X : Type 0} (xs ys : List X) (k : ℕ) (x : X) → slice_get xs k ≡ Some x → slice_get (xs ++ ys) k ≡ Some x

@@ -17,7 +17,8 @@ use Rattle.pgr_walks.specs.LinkOrders.{link_total, link_tie, int_tie}
 use Rattle.pgr_walks.proofs.Repeats.{Apart, IsWithoutRepeats-from_Apart}
 use Rattle.pgr_table.specs.declared.row.EdgeRow.{EdgeRow}
 use Rattle.pgr_graph.specs.Links.{IsLinkOfTable}
-use Rattle.pgr_graph.proofs.RowLinks.{links_of_rows, rows_apart, table_from_rows, rows_from_table}
+use Rattle.pgr_graph.specs.RowLinks.{links_of_rows}
+use Rattle.pgr_graph.proofs.RowLinks.{rows_apart, table_from_rows, rows_from_table}
 
 -- links are the same where all their parts are
 abbrev same_parts : LinkOf ℤ → LinkOf ℤ → Bool

@@ -8,11 +8,12 @@ use Rattle.pgr_graph.specs.declared.links.Direction.{Direction}
 use Rattle.pgr_graph.specs.declared.links.Direction.TheVariants.{Forward, Backward}
 use Rattle.pgr_graph.specs.Senses.{link_of_sense}
 
--- the link along the row with its reverse cost, or none where it is the link with its cost
+-- the link along the row with its reverse cost, or none where that is negative or equals the cost
 abbrev pub second_along : EdgeRow → Direction → Option (LinkOf ℤ)
 second_along row direction = if int_eq row.cost row.reverse_cost then None else link_of_sense row direction row.reverse_cost
 
--- the slots of a row: in the directed graph there and back, in the undirected one both costs there and both back; a self loop has the same links both ways
+-- the slots of a row: in the directed graph there and back, in the undirected one both costs there and both back; a slot is empty where its cost is
+-- negative or its link stands in an earlier slot of the row, and the second slot of a self loop in the directed graph is there with the reverse cost
 abbrev pub slots_of_row : Bool → EdgeRow → List (Option (LinkOf ℤ))
 slots_of_row true row =
     link_of_sense row Forward row.cost

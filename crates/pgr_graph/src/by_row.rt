@@ -3,6 +3,7 @@ ghost use Rattle.pgr_outside.specs.Lists.{IsWithoutRepeats};
 ghost use Rattle.pgr_walks.specs.declared.link.LinkOf.{LinkOf};
 ghost use Rattle.pgr_numbers.specs.Slots.{links_in};
 ghost use Rattle.pgr_graph.specs.Links.{IsLinkOfTable};
+ghost use Rattle.pgr_graph.specs.RowLinks.{links_of_rows};
 ghost use Rattle.pgr_graph.specs.RowSlots.{second_along, slots_of_row, slots_of_table};
 
 use crate::links::{Direction, link_of_sense};
@@ -27,6 +28,10 @@ impl<'a> LinksByRow<'a> {
             → Contains (links_in (⟦<LinksByRow<'a> as LinkSource>⟧.slots result)) link ↔ IsLinkOfTable edges.now directed link }
         ensures once { IsWithoutRepeats (links_in (⟦<LinksByRow<'a> as LinkSource>⟧.slots result)) }
         ensures few { length (⟦<LinksByRow<'a> as LinkSource>⟧.slots result) ≤ 4 * length edges.now }
+
+        // In this order, and in these slots.
+        ensures rows { links_in (⟦<LinksByRow<'a> as LinkSource>⟧.slots result) ≡ links_of_rows directed edges.now }
+        ensures slots { ⟦<LinksByRow<'a> as LinkSource>⟧.slots result ≡ slots_of_table directed edges.now }
     {
         // From this call it is known that no two rows of a table have one id.
         let _rows = edges.len();

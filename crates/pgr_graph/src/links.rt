@@ -7,6 +7,7 @@ ghost use Rattle.pgr_walks.specs.Link.{link_cmp};
 ghost use Rattle.pgr_walks.specs.Graph.{IsStrictlyRising};
 ghost use Rattle.pgr_graph.specs.Links.{IsLinkOfTable};
 ghost use Rattle.pgr_graph.specs.Senses.{link_of_sense};
+ghost use Rattle.pgr_graph.specs.RowLinks.{links_of_rows};
 
 use crate::by_row::LinksByRow;
 use pgr_numbers::LinkSource;
@@ -47,7 +48,7 @@ pub fn links_of(
 
 /// The links of a table, each once, row by row.
 ///
-/// They are the links that [`links_of`] lists, for a caller that needs no order. Two rows never give the same link, since
+/// They are the links that [`links_of`] lists, for a caller that needs no sorted list. Two rows never give the same link, since
 /// their ids differ, so a repeat could stand only within a row, and nothing is sorted. `NoMemory` may come at any call.
 pub fn links_by_row(
     alloc: Global,
@@ -58,6 +59,9 @@ pub fn links_by_row(
         (λ links. (link : LinkOf ℤ) → Contains links.items link ↔ IsLinkOfTable table.now directed link) }
     ensures once { IfOk result (λ links. IsWithoutRepeats links.items) }
     ensures few { IfOk result (λ links. vec_len links ≤ 4 * length table.now) }
+
+    // In this order.
+    ensures rows { IfOk result (λ links. links.items ≡ links_of_rows directed table.now) }
 {
     let source = LinksByRow::of(table, directed);
     let slots = source.slot_count();

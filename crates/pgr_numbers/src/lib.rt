@@ -7,8 +7,8 @@
 //! Proved: the names are exactly the ends, each once (`of`, clause `ends`), an id has a number exactly where
 //! it is a name (`number`, clause `held`), and numbering turns both ends of each link and nothing else
 //! (`numbered`). What numbering keeps is said by laws, functions that do nothing and whose contract is the
-//! law: the route order, costs and hops, walks, that links fit, labels, and the least walk, for lists of
-//! links and for a graph whose links are exactly the numbered ones. Not proved: time.
+//! law: of lists of links the route order, costs and hops, and walks; of a graph whose links are exactly the numbered ones
+//! its labels; of both that links fit, and the least walk. Not proved: time.
 #![tactic(auto)]
 
 mod ends;

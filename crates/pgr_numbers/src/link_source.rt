@@ -31,7 +31,8 @@ pub struct ListedLinks<'a> {
 impl<'a> ListedLinks<'a> {
     /// The source whose links are those of the list.
     pub fn of(links: &'a [NamedLink]) -> ListedLinks<'a>
-        ensures { links_in (⟦<ListedLinks<'a> as LinkSource>⟧.slots result) ≡ links.now }
+        ensures links { links_in (⟦<ListedLinks<'a> as LinkSource>⟧.slots result) ≡ links.now }
+        ensures slots { ⟦<ListedLinks<'a> as LinkSource>⟧.slots result ≡ map (λ link. Some link) links.now }
     {
         ListedLinks { links }
     }

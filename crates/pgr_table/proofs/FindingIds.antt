@@ -51,19 +51,34 @@ absent-rising ids id rise k d inside =
     less_apart (get_or ids k d) id
     (ap (λ a. int_cmp a id) (sym (get_or_append_left ids (id ∷ []) d k inside)) ∙ ap (int_cmp (get_or (ids ++ id ∷ []) k d)) (sym at_end) ∙ less)
 
--- what `last` shows of edges decides whether their ids rise with one more
-pub rises_with-last : (edges : List PlainEdge) (id : ℤ) (last : PlainEdge) → IsStrictlyRising int_cmp (ids_of edges) → slice_get edges (length edges - 1) ≡ Some last
-    → int_cmp last.id id ≡ Less → IsStrictlyRising int_cmp (ids_of edges ++ id ∷ [])
-rises_with-last edges id last rise at less =
-    let ids = ids_of edges in
-    let place : length ids - 1 ≡ length edges - 1 = ap (λ n. n - 1) (length-map edges (λ (edge : PlainEdge). edge.id)) in
-    let shown : slice_get ids (length ids - 1) ≡ Some last.id =
-    ap (slice_get ids) place ∙ slice_get-map (λ (edge : PlainEdge). edge.id) edges (length edges - 1) ∙ ap (λ (o : Option PlainEdge). option_id o) at in
-    rise_push ids id rise (all_less ids id last.id rise shown less)
+-- the last of ids that rise with one more comes before it
+before_it : (ids : List ℤ) (id last : ℤ) → IsStrictlyRising int_cmp (ids ++ id ∷ []) → slice_get ids (length ids - 1) ≡ Some last → int_cmp last id ≡ Less
+before_it [] id last rises at = cc at
+before_it (first ∷ rest) id last rises at =
+    let ids = first ∷ rest in
+    let here : get_or ids (length ids - 1) first ≡ last = get_or_from_slice_get ids (length ids - 1) last first at in
+    let front = get_or_append_left ids (id ∷ []) first (length ids - 1) (omega arith) in
+    let at_end : get_or (ids ++ id ∷ []) (length ids + 0) first ≡ id = get_or-append-add ids (id ∷ []) 0 first in
+    let less = rises (length ids - 1) (length ids + 0) first (omega arith) (omega (arith, length-append ids (id ∷ []))) in
+    ap (λ a. int_cmp a id) (sym (front ∙ here)) ∙ (ap (int_cmp (get_or (ids ++ id ∷ []) (length ids - 1) first)) (sym at_end) ∙ less)
+
+-- the id of the last of edges stands last among their ids
+last_id : (edges : List PlainEdge) (last : PlainEdge) → slice_get edges (length edges - 1) ≡ Some last → slice_get (ids_of edges) (length (ids_of edges) - 1) ≡ Some last.id
+last_id edges last at =
+    let place : length (ids_of edges) - 1 ≡ length edges - 1 = ap (λ n. n - 1) (length-map edges (λ (edge : PlainEdge). edge.id)) in
+    ap (slice_get (ids_of edges)) place ∙ slice_get-map (λ (edge : PlainEdge). edge.id) edges (length edges - 1) ∙ ap (λ (o : Option PlainEdge). option_id o) at
   where
     option_id : Option PlainEdge → Option ℤ
     option_id None = None
     option_id (Some edge) = Some edge.id
+
+-- the ids of edges rise with one more exactly where the last comes before it
+pub rises_with-last : (edges : List PlainEdge) (id : ℤ) (last : PlainEdge) → IsStrictlyRising int_cmp (ids_of edges) → slice_get edges (length edges - 1) ≡ Some last
+    → (int_cmp last.id id ≡ Less) ↔ IsStrictlyRising int_cmp (ids_of edges ++ id ∷ [])
+rises_with-last edges id last rise at = (
+  λ less. rise_push (ids_of edges) id rise (all_less (ids_of edges) id last.id rise (last_id edges last at) less),
+  λ rises. before_it (ids_of edges) id last.id rises (last_id edges last at),
+)
 
 -- one id alone rises
 pub rises_with-none : (edges : List PlainEdge) (id : ℤ) → slice_get edges (length edges - 1) ≡ None → IsStrictlyRising int_cmp (ids_of edges ++ id ∷ [])

@@ -43,8 +43,8 @@ impl PlainEdge {
 
 /// Edges with distinct ids, in the order in which they were put in, which contracts see as their list.
 ///
-/// As long as each id is above the one before, nothing is kept beside the edges, and an id is found by bisection. From the
-/// first that isn't on, the ids stand in an index too.
+/// Work, not proved: as long as each id is above the one before, nothing is kept beside the edges, and an id is found by
+/// bisection. From the first that isn't on, the ids stand in an index too.
 #[derive(Debug, Drop)]
 pub(crate) struct EdgeList {
     /// The edges in order.
@@ -149,7 +149,7 @@ impl EdgeList {
 /// Whether the ids still rise with one more, which is so where it is above the last.
 fn rises_with(edges: &[PlainEdge], id: i64) -> bool
     requires { IsStrictlyRising int_cmp (ids_of edges.now) }
-    ensures { IsTrue result → IsStrictlyRising int_cmp (ids_of edges.now ++ id ∷ []) }
+    ensures { IsTrue result ↔ IsStrictlyRising int_cmp (ids_of edges.now ++ id ∷ []) }
 {
     match edges.last() {
         Some(last) => last.id < id,

@@ -7,7 +7,7 @@ use crate::side::Side;
 use pgr_outside::NoMemory;
 use std::alloc::Global;
 
-/// The place where the links of each vertex below the size begin, and at last the end of the list.
+/// The place where the links of each vertex below the size begin, and at last the place behind those of all of them.
 ///
 /// The links stand by vertex. Work, not proved: one pass.
 pub(crate) fn beginnings<S: Side>(

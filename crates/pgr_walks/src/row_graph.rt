@@ -42,8 +42,8 @@ impl RowGraph {
     /// The graph with `size` vertices and exactly these links, which may stand in any order.
     ///
     /// Every end is below the size, and no link stands twice in the list: parallel links of one edge between
-    /// the same ends differ in cost. `NoMemory` may come at any call. Work, not proved: a few passes over the
-    /// links and short sorts, one for each vertex and end; or two sorts, where vertices stand in no order.
+    /// the same ends differ in cost. `NoMemory` may come at any call. Work, not proved: for either end a few passes
+    /// over the links and a short sort for each vertex; or one sort of all, where vertices stand in no order.
     pub fn from_links(alloc: Global, size: u32, links: Vec<Link>) -> Result<RowGraph, NoMemory>
         requires ends { All (HasEndsBelow size) links.items }
         requires once { IsWithoutRepeats links.items }

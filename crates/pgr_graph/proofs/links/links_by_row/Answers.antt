@@ -24,3 +24,8 @@ returns-clause-links c =
     let all : c.loop-slot.links.items ≡ links_in slots =
     c.loop-slot.invariant.links ∙ links_in-all slots c.loop-slot.slot (omega (arith, c.slot_count-slots.ensures)) in
     subst (λ (list : List (LinkOf ℤ)). (link : LinkOf ℤ) → Contains list link ↔ IsLinkOfTable c.args.table.now c.args.directed link) (sym all) c.of-source.ensures.links
+
+pub returns-clause-rows : goal.returns-clause-rows
+returns-clause-rows c =
+    let slots = slots_of_table c.of-source.result.directed c.of-source.result.edges.now in
+    c.loop-slot.invariant.links ∙ links_in-all slots c.loop-slot.slot (omega (arith, c.slot_count-slots.ensures)) ∙ c.of-source.ensures.rows

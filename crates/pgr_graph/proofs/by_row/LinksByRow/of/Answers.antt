@@ -11,3 +11,6 @@ returns-clause-once c =
 
 pub returns-clause-few : goal.returns-clause-few
 returns-clause-few c = few-slots c.args.directed c.args.edges.now
+
+pub returns-clause-rows : goal.returns-clause-rows
+returns-clause-rows c = table_slots c.args.directed c.args.edges.now

@@ -1,4 +1,4 @@
 use Rattle.pgr_numbers.proofs.names.Names.of.Goals as goal
 
 pub returns-clause-named : goal.returns-clause-named
-returns-clause-named c = rw c.of.ensures at c.of_source.ensures.named
+returns-clause-named c = rw c.of.ensures.links at c.of_source.ensures.named

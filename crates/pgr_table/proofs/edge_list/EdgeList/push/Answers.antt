@@ -13,5 +13,5 @@ invariant_of-self-then-rises_with c =
     let P : List PlainEdge → Type 0 = λ these. IsStrictlyRising int_cmp (ids_of these ++ c.args.edge.id ∷ []) in
     let same : to_z w64 (of_z w64 c.args.edge.id) ≡ c.args.edge.id = omega (arith, ints) in
     let shown = rw same at c.rises_with.ensures in
-    let rises : P edges = subst P c.deref.ensures.value (shown c.if-rises_with.true) in
+    let rises : P edges = subst P c.deref.ensures.value (shown.0 c.if-rises_with.true) in
     AreFound-risen c.self.inside.rising edges c.push.new.self.items c.args.edge c.self.inside.index.keys c.if-not-self.false c.in_ok-push.ensures.items rises
